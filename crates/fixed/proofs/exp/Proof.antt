@@ -1,0 +1,104 @@
+use borrow.Author.Needs.{needs}
+use native.Mathlib.Omega.{arith}
+use mathlib.Core.Bool.{Bool, true, false, cond}
+use mathlib.Core.Path.{_≡_, refl, _∙_, ap, sym, subst}
+use lib.Dec.{T, ltb, eqb}
+use lib.Count.{leadingZeros, leading-le, leading-length, leading-unique}
+use lib.IntN.{ℤ, pos, negsuc, natAbs, subℕ, _-ℤ_}
+use lib.Signed.{mag}
+use borrow.Author.Tests.{lt-ltb, le-ltb, ltb-true, ltb-false, eq-eqb, ne-eqb}
+use Prim.Native.Nat.{ℕ, suc, _≤_, _<_, _+_, _-_}
+use mir.Syntax.{w64, w32}
+use mir.Val.{SFits, Fits, toZ, ofZ}
+use mir.ValLaws.{toZ-ofZ, toZ-pos}
+use Rattle.fixed.specs.Fixed as Fixed
+use Rattle.fixed.specs.Abs.{abs-sub, mag≤abs}
+use Rattle.fixed.specs.Machine.{back, sfits-abs}
+use Rattle.fixed.specs.Wrap.{abs-wrap}
+use Rattle.fixed.proofs.exp.Statement.{statement}
+use Rattle.fixed.proofs.exp.Tie as tie
+
+zero-bits : (z : ℤ) → SFits w64 z → ofZ w64 z ≡ 0 → natAbs z ≡ 0
+zero-bits (pos n) f e = e
+zero-bits (negsuc n) f e = omega (arith, e, f .sfits)
+
+bits-zero : (z : ℤ) → natAbs z ≡ 0 → ofZ w64 z ≡ 0
+bits-zero (pos n) e = e
+bits-zero (negsuc n) e = omega (arith, e)
+
+-- of 64 digits 24 more are 0 than of 40
+leading-40 : (n : ℕ) → n < 1099511627776 → leadingZeros 64 n ≡ leadingZeros 40 n + 24
+leading-40 n h =
+    let s = leading-length 40 n h in
+    let e : leadingZeros 40 n + 24 + s .0 ≡ 64 = omega (arith, s .1) in
+    sym (leading-unique 64 n (leadingZeros 40 n + 24) (s .0) e (s .2) (s .3))
+
+moved : (l : ℕ) → pos (l + 24) -ℤ pos 33 ≡ pos l -ℤ pos 9
+moved l = go (ltb l 9) refl
+  where
+    go : (t : Bool) → ltb l 9 ≡ t → subℕ (l + 24) 33 ≡ cond t (negsuc (9 - suc l)) (pos (l - 9))
+    go true t =
+        let u : ltb (l + 24) 33 ≡ true = lt-ltb (l + 24) 33 (omega (arith, ltb-true l 9 t)) in
+        simp u (ap negsuc (omega arith))
+    go false t =
+        let u : ltb (l + 24) 33 ≡ false = le-ltb (l + 24) 33 (omega (arith, ltb-false l 9 t)) in
+        simp u (ap pos (omega arith))
+
+acc-requires : tie.Need-acc-requires
+acc-requires c κs = search needs
+
+module _ (c : tie.After-acc) where
+  abbrev a : ℤ
+  a = c .acc .result
+
+  a-is : a ≡ Fixed.acc (c .before .args .v)
+  a-is = let f = c .before .fits .v in simp toZ-ofZ at (c .acc .ensures)
+
+  a-fits : SFits w64 a
+  a-fits = record { sfits = c .acc .ok }
+
+returns : tie.Need-returns
+unfolding Fixed.exp
+returns c =
+    let b = c .before in
+    let z : natAbs (Fixed.acc (b .before .args .v)) ≡ 0 = rw (a-is b) at (zero-bits (a b) (a-fits b) (c .if1 .taken)) in
+    simp (eq-eqb (natAbs (Fixed.acc (b .before .args .v))) 0 z)
+
+magnitude-requires : tie.Need-magnitude-requires
+magnitude-requires c κs = search needs
+
+module _ (c : tie.After-magnitude) where
+  abbrev k : ℕ
+  k = c .magnitude .result
+
+  k-is : k ≡ mag (a (c .before .before))
+  k-is = rw (back w64 (a (c .before .before)) (c .before .before .acc .ok)) at (c .magnitude .ensures)
+
+  L-back : toZ w32 (leadingZeros 64 k) ≡ pos (leadingZeros 64 k)
+  L-back = toZ-pos w32 _ (omega (arith, leading-le 64 k))
+
+  r-fits : SFits w32 (pos (leadingZeros 64 k) -ℤ pos 33)
+  r-fits = sfits-abs w32 _ (omega (arith, abs-sub (pos (leadingZeros 64 k)) (pos 33), leading-le 64 k))
+
+cast-result : tie.Need-cast-result
+cast-result c = sfits-abs w32 _ (omega (arith, leading-le 64 (c .magnitude .result)))
+
+sub-result : tie.Need-sub-result
+sub-result c = rw (L-back c) (r-fits c)
+
+returns-2 : tie.Need-returns-2
+unfolding Fixed.exp
+returns-2 c =
+    let b = c .before .before in
+    let v = b .before .args .v in
+    let t : eqb (natAbs (Fixed.acc v)) 0 ≡ false = ne-eqb (natAbs (Fixed.acc v)) 0 (λ e. c .before .if1 .left (bits-zero (a b) (ap natAbs (a-is b) ∙ e))) in
+    let h : mag (Fixed.acc v) < 1099511627776 = omega (arith, mag≤abs (Fixed.acc v), abs-wrap 40 v) in
+    rw (L-back c)
+    (toZ-ofZ w32 _ (r-fits c)
+    ∙ ap (λ (m : ℕ). pos (leadingZeros 64 m) -ℤ pos 33) (k-is c ∙ ap mag (a-is b))
+    ∙ ap (λ (l : ℕ). pos l -ℤ pos 33) (leading-40 (mag (Fixed.acc v)) h)
+    ∙ moved (leadingZeros 40 (mag (Fixed.acc v)))
+    ∙ simp t)
+
+pub exp-spec : {M : Type 1} → statement M
+exp-spec = tie.close (tie.spec acc-requires returns magnitude-requires cast-result sub-result returns-2)

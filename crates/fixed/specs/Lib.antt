@@ -1,0 +1,8 @@
+-- The definitions that the contracts cite, and the laws on them.
+pub mod Fixed
+pub mod Cases
+pub mod Abs
+pub mod Wrap
+pub mod Machine
+pub mod Bounds
+pub mod Sums
