@@ -1,17 +1,15 @@
 -- Bounds of what the operations give.
 use mathlib.Core.Path.{_≡_, refl}
 use mathlib.Core.Bool.{Bool, true, false, cond}
-use Prim.Native.Nat.{ℕ, zero, suc, _+_, _%_, _^_, _≤_, _<_}
+use Prim.Native.Nat.{ℕ, zero, suc, _+_, _*_, _%_, _^_, _≤_, _<_}
 use native.Mathlib.Omega.{arith}
-use lib.Count
-use lib.Dec.{eqb}
 use lib.IntN.{ℤ, pos, negsuc, natAbs, _*ℤ_, _-ℤ_, _+ℤ_}
 use lib.Signed.{mag, shrZ, leZ, ltZ}
 use borrow.Author.Tests.{ltb-false}
 use mir.Syntax.{w16}
 use mir.Val.{SFits}
-use Rattle.fixed.specs.Fixed.{residue, wrap, clamp, acc, fold, sat, mul, mulUs, shift, exp, restoringStep, restoringDivide, sizeReciprocal}
-use Rattle.fixed.specs.Abs.{abs-mul-le, abs-sub}
+use Rattle.fixed.specs.Fixed.{residue, wrap, clamp, acc, fold, sat, trunc32, low, hi, mul, mulUs, shift, restoringStep, restoringDivide, sizeReciprocal}
+use Rattle.fixed.specs.Abs.{abs-mul-le, abs≤mag}
 use Rattle.fixed.specs.Wrap.{abs-wrap, residue-lt}
 use Rattle.fixed.specs.Machine.{abs-sfits}
 
@@ -29,26 +27,27 @@ unfolding shift
 abs-shift v (pos s) = abs-acc _
 abs-shift v (negsuc s) = abs-acc _
 
-pub abs-low : (z : ℤ) → natAbs (wrap 16 z) ≤ 32768
+-- the halves, and what 32 bits keep
+pub abs-low : (z : ℤ) → natAbs (low z) ≤ 32768
 abs-low z = omega (arith, abs-wrap 16 z)
 
-pub abs-trunc32 : (z : ℤ) → natAbs (wrap 32 z) ≤ 2147483648
+pub abs-hi : (z : ℤ) → natAbs (hi z) ≤ 32768
+abs-hi z = abs-low (shrZ z 65536)
+
+pub abs-trunc32 : (z : ℤ) → natAbs (trunc32 z) ≤ 2147483648
 abs-trunc32 z = omega (arith, abs-wrap 32 z)
 
--- the fractional product of two numbers of at most 2 ^ 15 is at most 2 ^ 31, that of 16 bits without a sign below 2 ^ 32
-pub abs-mul : (x y : ℤ) → natAbs x ≤ 32768 → natAbs y ≤ 32768 → natAbs (mul x y) ≤ 2147483648
+-- a fractional product, by bounds of its factors; of 16-bit ones it is at most 2 ^ 31, without the sign of one at most 2 ^ 32
+pub abs-mul-by : (x y : ℤ) (m n : ℕ) → natAbs x ≤ m → natAbs y ≤ n → natAbs (mul x y) ≤ m * n * 2
 unfolding mul
-abs-mul x y p q = abs-mul-le (x *ℤ y) (pos 2) 1073741824 2 (abs-mul-le x y 32768 32768 p q) (omega arith)
+abs-mul-by x y m n p q = abs-mul-le (x *ℤ y) (pos 2) (m * n) 2 (abs-mul-le x y m n p q) (omega arith)
 
 pub abs-mul16 : (x y : ℤ) → SFits w16 x → SFits w16 y → natAbs (mul x y) ≤ 2147483648
-abs-mul16 x y f g = abs-mul x y (abs-sfits w16 x f) (abs-sfits w16 y g)
+abs-mul16 x y f g = abs-mul-by x y 32768 32768 (abs-sfits w16 x f) (abs-sfits w16 y g)
 
 pub abs-mul-us : (x y : ℤ) → natAbs y ≤ 32768 → natAbs (mulUs x y) ≤ 4294967296
-unfolding mulUs
-abs-mul-us x y q =
-    abs-mul-le (pos (residue 65536 x) *ℤ y) (pos 2) 2147483648 2
-    (abs-mul-le (pos (residue 65536 x)) y 65536 32768 (omega (arith, residue-lt 65536 x (omega arith))) q)
-    (omega arith)
+unfolding mulUs mul
+abs-mul-us x y q = abs-mul-by (pos (residue 65536 x)) y 65536 32768 (omega (arith, residue-lt 65536 x (omega arith))) q
 
 -- what is saturated is of 32 bits
 pub mag-sat : (z : ℤ) → mag (sat z) < 2147483648
@@ -64,13 +63,8 @@ mag-sat z = go (ltZ z (negsuc 2147483647)) (ltZ (pos 2147483647) z) refl refl
     go false true e f = omega arith
     go false false e f = inside z e f
 
-pub abs-exp : (v : ℤ) → natAbs (exp v) ≤ 49
-unfolding exp
-abs-exp v = go (eqb (natAbs (acc v)) 0)
-  where
-    go : (t : Bool) → natAbs (cond t (pos 0) (pos (Count.leadingZeros 40 (mag (acc v))) -ℤ pos 9)) ≤ 49
-    go true = omega arith
-    go false = omega (arith, abs-sub (pos (Count.leadingZeros 40 (mag (acc v)))) (pos 9), Count.leading-le 40 (mag (acc v)))
+pub abs-sat : (z : ℤ) → natAbs (sat z) ≤ 2147483648
+abs-sat z = omega (arith, abs≤mag (sat z), mag-sat z)
 
 pub abs-restoring-step : (num den : ℤ) → natAbs (restoringStep num den) ≤ 549755813888
 unfolding restoringStep

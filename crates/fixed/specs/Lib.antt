@@ -1,8 +1,10 @@
 -- The definitions that the contracts cite, and the laws on them.
 pub mod Fixed
 pub mod Cases
+pub mod Integers
 pub mod Abs
 pub mod Wrap
 pub mod Machine
 pub mod Bounds
 pub mod Sums
+pub mod Shifts

@@ -1,16 +1,34 @@
 -- Sums in the accumulator, `total fold s f n`: s, and then f 0, f 1, .. f (n - 1) folded in. What a loop over such a sum asks, whose local holds the sum's bits.
 use native.Mathlib.Omega.{arith}
 use mathlib.Core.Path.{_≡_, refl, ap, sym, _∙_}
-use Prim.Native.Nat.{ℕ, zero, suc, _≤_, _<_, _+_}
+use Prim.Native.Nat.{ℕ, zero, suc, _≤_, _<_, _+_, _*_}
+use native.Mathlib.Nat.{suc-mul}
 use lib.IntN.{ℤ, pos, natAbs, _+ℤ_}
 use mir.Syntax.{w64}
 use mir.Val.{toZ, ofZ}
 use mir.ValLaws.{toZ-ofZ}
 use Rattle.sequence.specs.Total.{total, total-again, total-keeps}
-use Rattle.fixed.specs.Fixed.{fold}
+use Rattle.fixed.specs.Fixed.{acc, fold}
+use Rattle.fixed.specs.Abs.{abs-add}
+use Rattle.fixed.specs.Wrap.{wrap-add, wrap-add-right, acc-fits}
 use Rattle.fixed.specs.Machine.{sfits-abs}
 use Rattle.fixed.specs.Bounds.{abs-fold}
 
+-- a wrap of the sum so far or of the term changes nothing
+pub fold-acc : (s t : ℤ) → fold (acc s) t ≡ fold s t
+unfolding fold
+fold-acc s t = wrap-add 40 s t
+
+pub fold-acc-right : (s t : ℤ) → fold s (acc t) ≡ fold s t
+unfolding fold
+fold-acc-right s t = wrap-add-right 40 s t
+
+-- where the sum fits it is the sum
+pub fold-fits : (s t : ℤ) → natAbs s + natAbs t < 549755813888 → fold s t ≡ s +ℤ t
+unfolding fold
+fold-fits s t h = acc-fits (s +ℤ t) (omega (arith, abs-add s t))
+
+-- a running sum is an accumulator
 pub sum-le : (s : ℤ) (f : ℕ → ℤ) (n : ℕ) → natAbs s ≤ 549755813888 → natAbs (total fold s f n) ≤ 549755813888
 sum-le s f n h = total-keeps fold (λ (x : ℤ). natAbs x ≤ 549755813888) s f (λ x k p. abs-fold x (f k)) h n
 
@@ -25,3 +43,17 @@ module _ (s : ℤ) (f : ℕ → ℤ) (n : ℕ) (v : ℕ) (h : natAbs s ≤ 54975
   -- a turn of the loop: r is the new sum
   pub sum-again : (r : ℤ) → r ≡ fold (toZ w64 v) (f n) → ofZ w64 r ≡ ofZ w64 (total fold s f (n + 1))
   sum-again r g = ap (ofZ w64) (total-again fold s f n sum-back g)
+
+-- ---- where no partial sum can leave the accumulator, the total is the plain sum
+module _ (s : ℤ) (f : ℕ → ℤ) (m : ℕ) (small : (k : ℕ) → natAbs (f k) ≤ m) where
+  pub plain-le : (n : ℕ) → natAbs (total _+ℤ_ s f n) ≤ natAbs s + n * m
+  unfolding total
+  plain-le zero = omega arith
+  plain-le (suc n) = let d : suc n * m ≡ n * m + m = suc-mul n m in omega (arith, abs-add (total _+ℤ_ s f n) (f n), small n, plain-le n)
+
+  pub sum-fits : (n : ℕ) → natAbs s + n * m < 549755813888 → total fold s f n ≡ total _+ℤ_ s f n
+  unfolding total
+  sum-fits zero h = refl
+  sum-fits (suc n) h =
+      let d : suc n * m ≡ n * m + m = suc-mul n m in
+      ap (λ (x : ℤ). fold x (f n)) (sum-fits n (omega arith)) ∙ fold-fits (total _+ℤ_ s f n) (f n) (omega (arith, small n, plain-le n))

@@ -11,8 +11,8 @@ use lib.Pow.{pow-pos}
 use lib.IntN.{ℤ, pos, negsuc, negℤ, natAbs, subℕ, _+ℤ_, _-ℤ_, _*ℤ_, +ℤ-comm}
 use lib.Signed.{mag}
 use borrow.Author.Tests.{lt-ltb, le-ltb, ltb-true, ltb-false}
-use Rattle.fixed.specs.Fixed.{residue, signed, wrap}
-use Rattle.fixed.specs.Abs.{abs-add, abs-mul, abs-neg}
+use Rattle.fixed.specs.Fixed.{residue, signed, wrap, acc}
+use Rattle.fixed.specs.Abs.{abs-add, abs-mul, abs-neg, mag≤abs}
 
 -- the complement of a number by its digits
 pub compl-digits : (Q M q r : ℕ) → q < Q → r < M → Q * M - suc (q * M + r) ≡ (Q - suc q) * M + (M - suc r)
@@ -177,3 +177,10 @@ wrap-id h (negsuc n) p =
     let l : ltb ((N - suc n) + (N - suc n)) N ≡ false = le-ltb ((N - suc n) + (N - suc n)) N (omega arith) in
     let b : N - suc (N - suc n) ≡ n = omega arith in
     simp (e, l, b)
+
+pub wrap-fits : (h : ℕ) (z : ℤ) → natAbs z < 2 ^ h → wrap (suc h) z ≡ z
+wrap-fits h z p = wrap-id h z (omega (arith, mag≤abs z))
+
+-- so no sum, difference or product of numbers that are small enough wraps in the accumulator
+pub acc-fits : (z : ℤ) → natAbs z < 549755813888 → acc z ≡ z
+acc-fits z p = wrap-fits 39 z p

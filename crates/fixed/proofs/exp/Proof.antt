@@ -1,20 +1,22 @@
+-- The magnitude of an accumulator has 40 bits, so 24 of the 64 bits that are counted are 0 besides.
 use borrow.Author.Needs.{needs}
 use native.Mathlib.Omega.{arith}
-use mathlib.Core.Bool.{Bool, true, false, cond}
-use mathlib.Core.Path.{_≡_, refl, _∙_, ap, sym, subst}
-use lib.Dec.{T, ltb, eqb}
+use mathlib.Core.Bool.{false}
+use mathlib.Core.Path.{_≡_, _∙_, ap, sym}
+use lib.Dec.{eqb}
 use lib.Count.{leadingZeros, leading-le, leading-length, leading-unique}
-use lib.IntN.{ℤ, pos, negsuc, natAbs, subℕ, _-ℤ_}
+use lib.IntN.{ℤ, pos, negsuc, natAbs, _-ℤ_}
 use lib.Signed.{mag}
-use borrow.Author.Tests.{lt-ltb, le-ltb, ltb-true, ltb-false, eq-eqb, ne-eqb}
-use Prim.Native.Nat.{ℕ, suc, _≤_, _<_, _+_, _-_}
+use borrow.Author.Tests.{eq-eqb, ne-eqb}
+use Prim.Native.Nat.{ℕ, _<_, _+_}
 use mir.Syntax.{w64, w32}
-use mir.Val.{SFits, Fits, toZ, ofZ}
+use mir.Val.{SFits, toZ, ofZ}
 use mir.ValLaws.{toZ-ofZ, toZ-pos}
 use Rattle.fixed.specs.Fixed as Fixed
-use Rattle.fixed.specs.Abs.{abs-sub, mag≤abs}
+use Rattle.fixed.specs.Integers.{sub-same}
+use Rattle.fixed.specs.Abs.{abs-sub}
 use Rattle.fixed.specs.Machine.{back, sfits-abs}
-use Rattle.fixed.specs.Wrap.{abs-wrap}
+use Rattle.fixed.specs.Shifts.{mag-acc}
 use Rattle.fixed.proofs.exp.Statement.{statement}
 use Rattle.fixed.proofs.exp.Tie as tie
 
@@ -32,17 +34,6 @@ leading-40 n h =
     let s = leading-length 40 n h in
     let e : leadingZeros 40 n + 24 + s .0 ≡ 64 = omega (arith, s .1) in
     sym (leading-unique 64 n (leadingZeros 40 n + 24) (s .0) e (s .2) (s .3))
-
-moved : (l : ℕ) → pos (l + 24) -ℤ pos 33 ≡ pos l -ℤ pos 9
-moved l = go (ltb l 9) refl
-  where
-    go : (t : Bool) → ltb l 9 ≡ t → subℕ (l + 24) 33 ≡ cond t (negsuc (9 - suc l)) (pos (l - 9))
-    go true t =
-        let u : ltb (l + 24) 33 ≡ true = lt-ltb (l + 24) 33 (omega (arith, ltb-true l 9 t)) in
-        simp u (ap negsuc (omega arith))
-    go false t =
-        let u : ltb (l + 24) 33 ≡ false = le-ltb (l + 24) 33 (omega (arith, ltb-false l 9 t)) in
-        simp u (ap pos (omega arith))
 
 acc-requires : tie.Need-acc-requires
 acc-requires c κs = search needs
@@ -92,12 +83,12 @@ returns-2 c =
     let b = c .before .before in
     let v = b .before .args .v in
     let t : eqb (natAbs (Fixed.acc v)) 0 ≡ false = ne-eqb (natAbs (Fixed.acc v)) 0 (λ e. c .before .if1 .left (bits-zero (a b) (ap natAbs (a-is b) ∙ e))) in
-    let h : mag (Fixed.acc v) < 1099511627776 = omega (arith, mag≤abs (Fixed.acc v), abs-wrap 40 v) in
+    let h : mag (Fixed.acc v) < 1099511627776 = omega (arith, mag-acc v) in
     rw (L-back c)
     (toZ-ofZ w32 _ (r-fits c)
     ∙ ap (λ (m : ℕ). pos (leadingZeros 64 m) -ℤ pos 33) (k-is c ∙ ap mag (a-is b))
     ∙ ap (λ (l : ℕ). pos l -ℤ pos 33) (leading-40 (mag (Fixed.acc v)) h)
-    ∙ moved (leadingZeros 40 (mag (Fixed.acc v)))
+    ∙ sub-same (leadingZeros 40 (mag (Fixed.acc v)) + 24) 33 (leadingZeros 40 (mag (Fixed.acc v))) 9 (omega arith)
     ∙ simp t)
 
 pub exp-spec : {M : Type 1} → statement M

@@ -12,7 +12,8 @@ use mir.ValLaws.{toZ-ofZ}
 use Rattle.fixed.specs.Fixed as Fixed
 use Rattle.fixed.specs.Abs.{abs-add, abs-neg, minus-is}
 use Rattle.fixed.specs.Machine.{sfits-abs, back}
-use Rattle.fixed.specs.Bounds.{abs-exp, abs-shift, abs-size-reciprocal}
+use Rattle.fixed.specs.Bounds.{abs-shift, abs-size-reciprocal}
+use Rattle.fixed.specs.Shifts.{abs-exp}
 use Rattle.fixed.proofs.normalised_reciprocal.Statement.{statement}
 use Rattle.fixed.proofs.normalised_reciprocal.Tie as tie
 
