@@ -87,7 +87,7 @@ pub fn shift(v: i64, s: i32) -> i64
 }
 
 // How far v is from 0 or, below it, from -1.
-fn magnitude(v: i64) -> u64
+pub fn magnitude(v: i64) -> u64
     ensures { λ r. ⌜ r ≡ mag v ⌝ }
 {
     if v < 0 { (!v) as u64 } else { v as u64 }

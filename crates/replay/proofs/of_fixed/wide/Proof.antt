@@ -1,0 +1,15 @@
+use Rattle.fixed.specs.Machine.{widens}
+use borrow.Author.Needs.{needs}
+use Rattle.replay.proofs.of_fixed.wide.Statement.{statement}
+use Rattle.replay.proofs.of_fixed.wide.Tie as tie
+use Rattle.replay.proofs.of_fixed.wide.Reads as reads
+use Rattle.replay.proofs.of_fixed.wide.Lts as lts
+
+cast-result : tie.Need-cast-result
+cast-result c = widens tt (c .fits .x)
+
+returns : tie.Need-returns
+returns c = search needs
+
+pub wide-spec : {M : Type 1} → statement M
+wide-spec = tie.close (tie.spec cast-result returns)

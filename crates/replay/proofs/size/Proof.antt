@@ -1,0 +1,27 @@
+use mir.Syntax.{w64}
+use mir.ValLaws.{toZ-ofZ}
+use native.Mathlib.Omega.{arith}
+use borrow.Author.Needs.{needs}
+use Rattle.replay.proofs.size.Statement.{statement}
+use Rattle.replay.proofs.size.Tie as tie
+use Rattle.replay.proofs.size.Reads as reads
+use Rattle.replay.proofs.size.Lts as lts
+use Rattle.fixed.proofs.magnitude.Reads as magnitude-reads
+
+magnitude-requires : tie.Need-magnitude-requires
+magnitude-requires c κs = search needs
+
+add-result : tie.Need-add-result
+add-result c =
+    let f = c .before .before .fits .x in
+    let e = rw (toZ-ofZ w64 (c .before .before .args .x) f) at (c .before .magnitude .ensures) in
+    record { fits = omega (arith, e, f .sfits) }
+
+returns : tie.Need-returns
+returns c = search needs
+
+returns-2 : tie.Need-returns-2
+returns-2 c = search needs
+
+pub size-spec : {M : Type 1} → statement M
+size-spec = tie.close (tie.spec magnitude-requires add-result returns returns-2)

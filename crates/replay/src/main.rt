@@ -1,0 +1,144 @@
+// Replays questions that were put to the Rust: a line of numbers in, the answer's numbers out.
+// The first number of a line names the module. The stored output is the Rust's own.
+mod of_fixed;
+
+use libc::STDIN_FILENO;
+use libc::STDOUT_FILENO;
+ghost use mathlib.Core.Path.{_≡_};
+ghost use Prim.Native.Nat.{_<_, _≤_, _+_};
+ghost use lib.ListN.{length};
+
+// The numbers of a line, and where the next line begins.
+struct Question {
+    count: usize,
+    numbers: [i64; 128],
+    next: usize,
+}
+
+// A line that is being read: the numbers that are complete, and the digits of the next.
+struct Reading {
+    count: usize,
+    numbers: [i64; 128],
+    digits: u64,
+    negative: bool,
+}
+
+// A number of at most 63 bits by its digits; one that is wider is the smallest or the largest.
+fn signed(digits: u64, negative: bool) -> i64 {
+    if digits < 9223372036854775808 {
+        let n = digits as i64;
+        return if negative { 0 - n } else { n };
+    }
+    if negative { i64::MIN } else { i64::MAX }
+}
+
+fn wide(x: u8) -> u64
+    ensures { λ r. ⌜ r < 256 ⌝ }
+{
+    x as u64
+}
+
+// A digit goes on, a minus is kept, anything else ends the number.
+fn step(r: Reading, b: u8) -> Reading {
+    let mut s = r;
+    if b'0' <= b {
+        s.digits = s.digits % 1000000000000000000 * 10 + wide(b) % 16;
+        return s;
+    }
+    if b == b'-' {
+        s.negative = true;
+        return s;
+    }
+    let count = s.count;
+    if count < 128 {
+        s.numbers[count] = signed(s.digits, s.negative);
+        s.count = count + 1;
+    }
+    s.digits = 0;
+    s.negative = false;
+    s
+}
+
+// The line of s that begins at from; each of its numbers ends with a blank or with the line.
+fn line(s: &[u8], from: usize) -> Question
+    requires { ⌜ from < length (now s) ⌝ }
+    ensures { λ r. ⌜ (from < r .next) × (r .next ≤ length (now (s .entry))) ⌝ }
+{
+    let mut r = Reading {
+        count: 0,
+        numbers: [0; 128],
+        digits: 0,
+        negative: false,
+    };
+    let mut i = from;
+    while i < s.len() {
+        let b = s[i];
+        r = step(r, b);
+        i += 1;
+        if b == b'\n' {
+            return asked(r, i);
+        }
+    }
+    asked(r, i)
+}
+
+fn asked(r: Reading, next: usize) -> Question
+    ensures { λ q. ⌜ q .next ≡ next ⌝ }
+{
+    let numbers = r.numbers;
+    Question {
+        count: r.count,
+        numbers,
+        next,
+    }
+}
+
+// How far x is from 0.
+fn size(x: i64) -> u64 {
+    let m = fixed::magnitude(x);
+    if x < 0 { m + 1 } else { m }
+}
+
+fn say_number(x: i64) {
+    if x < 0 {
+        io::write_all(STDOUT_FILENO, b"-");
+    }
+    io::print_decimal(STDOUT_FILENO, size(x));
+}
+
+// The numbers, as a line.
+fn say(numbers: &[i64]) {
+    let mut i = 0;
+    while i < numbers.len() {
+        if 0 < i {
+            io::write_all(STDOUT_FILENO, b" ");
+        }
+        say_number(numbers[i]);
+        i += 1;
+    }
+    io::write_all(STDOUT_FILENO, b"\n");
+}
+
+// 0 fixed
+fn answer(q: Question) {
+    let n = q.numbers;
+    match n[0] {
+        0 => of_fixed::answer(n),
+        _ => say(&[]),
+    }
+}
+
+fn answers(s: &[u8]) {
+    let mut from = 0;
+    while from < s.len() {
+        let q = line(s, from);
+        from = q.next;
+        answer(q);
+    }
+}
+
+fn main() {
+    let mut room = [0u8; 262144];
+    let n = io::read_full(STDIN_FILENO, &mut room);
+    answers(&room[..n]);
+}

@@ -1,0 +1,13 @@
+//! The module list that the source's own mod.rs would have, and one more module, which asks.
+pub const SUBFRAME: usize = 80;
+pub const LPC_ORDER: usize = 10;
+
+pub mod codebook;
+pub mod excitation;
+pub mod fixed;
+pub mod lsp;
+pub mod pitch;
+pub mod postfilter;
+pub mod probe;
+pub mod synth;
+pub mod tables;

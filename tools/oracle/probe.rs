@@ -1,0 +1,453 @@
+//! Questions to the Rust and its answers, one line each, numbers in decimal.
+//! This module is a descendant of `celp`, so it sees what is private there; main.rs reaches it through `Native`.
+use super::fixed::*;
+use super::{codebook, excitation, lsp, pitch, postfilter, synth};
+use crate::celp::{bits, post_fec, Native};
+use crate::random::Random;
+
+pub type Question = Vec<i64>;
+
+impl Native {
+    pub fn questions(module: &str, seed: u64) -> Vec<Question> {
+        questions(module, seed)
+    }
+    pub fn answer(module: &str, q: &[i64]) -> Vec<i64> {
+        answer(module, q)
+    }
+}
+
+fn questions(module: &str, seed: u64) -> Vec<Question> {
+    let mut r = Random::new(seed);
+    match module {
+        "fixed" => fixed_questions(&mut r),
+        "synth" => synth_questions(&mut r),
+        "bits" => bits_questions(&mut r),
+        "lsp" => lsp_questions(&mut r),
+        "pitch" => pitch_questions(&mut r),
+        "codebook" => codebook_questions(&mut r),
+        "excitation" => excitation_questions(&mut r),
+        "postfilter" => postfilter_questions(&mut r),
+        _ => panic!("no questions for {module}"),
+    }
+}
+
+fn answer(module: &str, q: &[i64]) -> Vec<i64> {
+    match module {
+        "fixed" => fixed_answer(q),
+        "synth" => synth_answer(q),
+        "bits" => bits_answer(q),
+        "lsp" => lsp_answer(q),
+        "pitch" => pitch_answer(q),
+        "codebook" => codebook_answer(q),
+        "excitation" => excitation_answer(q),
+        "postfilter" => postfilter_answer(q),
+        _ => panic!("no answers for {module}"),
+    }
+}
+
+const EDGES: [i64; 18] = [
+    0,
+    1,
+    -1,
+    64,
+    32767,
+    -32768,
+    65535,
+    65536,
+    i32::MAX as i64,
+    i32::MIN as i64,
+    (1 << 39) - 1,
+    1 << 39,
+    -(1 << 39),
+    -(1 << 39) - 1,
+    1 << 40,
+    i64::MAX,
+    i64::MIN,
+    -(1 << 30),
+];
+
+// 0 acc, 1 sat, 2 hi, 3 low, 4 mul, 5 mul_us, 6 mul32x16, 7 trunc32, 8 exp, 9 shift, 10 restoring_divide, 11 normalised_reciprocal
+fn fixed_questions(r: &mut Random) -> Vec<Question> {
+    let mut all = Vec::new();
+    for op in [0, 1, 2, 3, 7, 8, 11] {
+        for v in EDGES {
+            all.push(vec![op, v]);
+        }
+        for _ in 0..40 {
+            let bits = 32 + 8 * r.below(5) as u32;
+            all.push(vec![op, r.signed(bits)]);
+        }
+    }
+    for op in [4, 5] {
+        for x in [0, 1, -1, 32767, -32768] {
+            for y in [0, 1, -1, 32767, -32768] {
+                all.push(vec![op, x, y]);
+            }
+        }
+        for _ in 0..40 {
+            all.push(vec![op, r.word(), r.word()]);
+        }
+    }
+    for v in EDGES {
+        for y in [1, -1, 32767, -32768] {
+            all.push(vec![6, v, y]);
+        }
+    }
+    for _ in 0..60 {
+        all.push(vec![6, r.signed(40), r.word()]);
+    }
+    for v in EDGES {
+        for s in [0, 1, -1, 31, -9, 39, -39, 40] {
+            all.push(vec![9, v, s]);
+        }
+    }
+    for _ in 0..60 {
+        all.push(vec![9, r.signed(40), r.below(80) as i64 - 40]);
+    }
+    for code in 0..256 {
+        all.push(vec![10, code + 2, 3, 16]);
+    }
+    for _ in 0..80 {
+        let num = r.signed(40);
+        all.push(vec![10, num, r.word(), r.below(20) as i64]);
+    }
+    all
+}
+
+fn fixed_answer(q: &[i64]) -> Vec<i64> {
+    let v = q[1];
+    match q[0] {
+        0 => vec![acc(v)],
+        1 => vec![sat(v)],
+        2 => vec![hi(v) as i64],
+        3 => vec![low(v) as i64],
+        4 => vec![mul(v as i16, q[2] as i16)],
+        5 => vec![mul_us(v as i16, q[2] as i16)],
+        6 => vec![mul32x16(v, q[2] as i16)],
+        7 => vec![trunc32(v)],
+        8 => vec![exp(v) as i64],
+        9 => vec![shift(v, q[2] as i32)],
+        10 => vec![restoring_divide(v, q[2] as i16, q[3] as u32)],
+        _ => {
+            let (quotient, shift) = normalised_reciprocal(v);
+            vec![quotient, shift as i64]
+        }
+    }
+}
+
+// eleven coefficients, ten of memory, then the inputs; the answer: the outputs, then the memory
+fn synth_questions(r: &mut Random) -> Vec<Question> {
+    let mut all = Vec::new();
+    for n in 0..320 {
+        let len = if n % 40 == 0 { 80 } else { r.below(12) };
+        let quiet = n % 3 == 0;
+        let mut q = Vec::new();
+        for _ in 0..21 + len {
+            let w = r.word();
+            q.push(if quiet { w >> 3 } else { w });
+        }
+        if n % 16 == 5 {
+            q[..11].fill(-32768);
+        }
+        all.push(q);
+    }
+    all
+}
+
+fn words(q: &[i64]) -> Vec<i16> {
+    q.iter().map(|&x| x as i16).collect()
+}
+
+fn synth_answer(q: &[i64]) -> Vec<i64> {
+    let w = words(q);
+    let a: [i16; 11] = w[..11].try_into().unwrap();
+    let mut mem: [i16; 10] = w[11..21].try_into().unwrap();
+    let mut out = vec![0i16; w.len() - 21];
+    synth::synthesis(&a, &w[21..], &mut out, &mut mem);
+    out.iter().chain(mem.iter()).map(|&x| x as i64).collect()
+}
+
+// a payload of 20 bytes, or of another length
+fn bits_questions(r: &mut Random) -> Vec<Question> {
+    let mut all = vec![vec![0; 20], vec![255; 19]];
+    all[1].push(0x3f);
+    for last in [0x3f, 0x40, 0x80, 0xc0] {
+        let mut q = vec![0; 19];
+        q.push(last);
+        all.push(q);
+    }
+    for bit in 0..160 {
+        let mut q = vec![0; 20];
+        q[bit / 8] = 1 << (bit % 8);
+        all.push(q);
+    }
+    for n in 0..200 {
+        let mut q: Question = (0..20).map(|_| r.below(256) as i64).collect();
+        if n % 10 != 0 {
+            q[19] &= 0x3f;
+        }
+        all.push(q);
+    }
+    all
+}
+
+// the number, the 24 fields (mod.rs's two changes made), and where accepted the payload, which the packer must give back
+fn bits_answer(q: &[i64]) -> Vec<i64> {
+    let payload: [u8; 20] = q
+        .iter()
+        .map(|&x| x as u8)
+        .collect::<Vec<_>>()
+        .try_into()
+        .unwrap();
+    let Ok(mut params) = post_fec::unpack(&payload) else {
+        return [vec![6], vec![0; 24]].concat();
+    };
+    let mut low = 0;
+    for k in 74..78 {
+        low = 2 * low + ((payload[k / 8] >> (k % 8)) & 1);
+    }
+    params.halves[1].gain_low[1] = Some(low);
+    params.halves[0].absolute_pitch ^= 3;
+    let mut out = vec![0];
+    for half in &params.halves {
+        out.extend(half.gain_low.map(|g| g.unwrap() as i64));
+        out.extend(half.code.map(|c| c as i64));
+        out.extend(half.gain_high.map(|g| g as i64));
+        out.extend(
+            [
+                half.mode,
+                half.stage1,
+                half.stage2_low,
+                half.stage2_high,
+                half.absolute_pitch,
+                half.relative_pitch,
+            ]
+            .map(|x| x as i64),
+        );
+    }
+    out.extend(q);
+    out
+}
+
+fn numbers(w: &[i16]) -> Vec<i64> {
+    w.iter().map(|&x| x as i64).collect()
+}
+
+// 0 lsf_to_lsp of ten, 1 lsp_to_lpc of ten, 2 midpoint of ten and ten, 3 reflection_coefficients of eleven
+fn lsp_questions(r: &mut Random) -> Vec<Question> {
+    let mut all = Vec::new();
+    for n in 0..80 {
+        let mut lsf: Vec<i64> = (0..10).map(|_| r.below(25683) as i64).collect();
+        if n % 2 == 0 {
+            lsf.sort();
+        }
+        if n == 0 {
+            lsf.fill(25682);
+        }
+        all.push([vec![0], lsf].concat());
+    }
+    for n in 0..120 {
+        let mut l: Vec<i64> = (0..10).map(|_| r.word()).collect();
+        match n {
+            0 => l.fill(-32768),
+            1 => l.fill(32767),
+            2 => l = vec![-32768, 0, 0, 0, 0, 0, 0, 0, 0, 0],
+            3 => l = vec![0, -32768, -32768, 0, 0, 0, 0, 0, 0, 0],
+            _ => {
+                if n % 4 == 0 {
+                    l.sort_by(|a, b| b.cmp(a));
+                }
+            }
+        }
+        all.push([vec![1], l].concat());
+    }
+    for _ in 0..60 {
+        all.push([vec![2], (0..20).map(|_| r.word()).collect()].concat());
+    }
+    for n in 0..120 {
+        let mut a: Vec<i64> = (0..11).map(|_| r.word()).collect();
+        match n % 6 {
+            0 => a[10] = 4096,
+            1 => a[10] = -4096,
+            2 => a = a.iter().map(|x| x >> 4).collect(),
+            3 => a[10] = 4095 + r.below(3) as i64,
+            4 => a[10] = -32768,
+            _ => {}
+        }
+        if n == 4 {
+            a.fill(-32768);
+        }
+        all.push([vec![3], a].concat());
+    }
+    all
+}
+
+fn lsp_answer(q: &[i64]) -> Vec<i64> {
+    let w = words(&q[1..]);
+    match q[0] {
+        0 => numbers(&lsp::lsf_to_lsp(&w[..].try_into().unwrap())),
+        1 => numbers(&lsp::lsp_to_lpc(&w[..].try_into().unwrap())),
+        2 => numbers(&lsp::midpoint(
+            &w[..10].try_into().unwrap(),
+            &w[10..].try_into().unwrap(),
+        )),
+        _ => numbers(&lsp::reflection_coefficients(&w[..].try_into().unwrap())),
+    }
+}
+
+// 0 decode_absolute of a code, 1 decode_relative of a code and a lag integer,
+// 2 predict: lag integer, fraction, a seed of the 154 samples before; 3 sharpen: lag integer, fraction, gain, a seed of the innovation
+fn pitch_questions(r: &mut Random) -> Vec<Question> {
+    let mut all = Vec::new();
+    for code in 0..256 {
+        all.push(vec![0, code]);
+    }
+    for prev in [19, 20, 21, 24, 25, 26, 60, 80, 138, 139, 140, 143, 144] {
+        for code in 0..32 {
+            all.push(vec![1, code, prev]);
+        }
+    }
+    for n in 0..60 {
+        let c = match n {
+            0 => 0,
+            1 => 196,
+            2 => 255,
+            _ => r.below(256) as i64,
+        };
+        let lag = pitch::decode_absolute(c as i16);
+        all.push(vec![2, lag.integer as i64, lag.frac as i64, n]);
+    }
+    all.push(vec![2, 144, -1, 7]);
+    for n in 0..80 {
+        let lag = pitch::decode_absolute(r.below(180) as i16);
+        all.push(vec![3, lag.integer as i64, lag.frac as i64, r.word(), n]);
+    }
+    all.push(vec![3, 19, 1, 32767, 7]);
+    all
+}
+
+// n samples that a seed gives, by a rule that a replay can follow: x' = (x * 31 + 7) mod 65536 from the seed, read signed, every third divided by 16
+fn samples(seed: i64, n: usize) -> Vec<i16> {
+    let mut x = seed as u32;
+    (0..n)
+        .map(|k| {
+            x = (x * 31 + 7) % 65536;
+            let s = x as u16 as i16;
+            if k % 3 == 0 {
+                s >> 4
+            } else {
+                s
+            }
+        })
+        .collect()
+}
+
+fn pitch_answer(q: &[i64]) -> Vec<i64> {
+    let lag = |integer: i64, frac: i64| pitch::Lag {
+        integer: integer as i16,
+        frac: frac as i16,
+    };
+    match q[0] {
+        0 => {
+            let l = pitch::decode_absolute(q[1] as i16);
+            vec![l.integer as i64, l.frac as i64]
+        }
+        1 => {
+            let l = pitch::decode_relative(q[1] as i16, q[2] as i16);
+            vec![l.integer as i64, l.frac as i64]
+        }
+        2 => {
+            let mut exc = samples(q[3], 154);
+            exc.resize(314, 0);
+            pitch::predict(&mut exc, 154, &lag(q[1], q[2]));
+            numbers(&exc[154..234])
+        }
+        _ => {
+            let mut code: [i16; 80] = samples(q[4], 80).try_into().unwrap();
+            pitch::sharpen(&mut code, &lag(q[1], q[2]), q[3] as i16);
+            numbers(&code)
+        }
+    }
+}
+
+// an index; the answer: 1, the class and the innovation, or 0 where a position digit lies outside 0..=39
+fn codebook_questions(r: &mut Random) -> Vec<Question> {
+    let mut all: Vec<Question> = vec![vec![0], vec![1], vec![65535], vec![32768]];
+    for _ in 0..396 {
+        all.push(vec![r.below(65536) as i64]);
+    }
+    all
+}
+
+// The digits, worked out as codebook.rs does, to leave out what it would panic on or read elsewhere.
+fn digits_fit(index: u16) -> bool {
+    use super::tables::*;
+    let index = index.min(FCB_INDEX_LIMIT[0] - 1);
+    let class = (0..6)
+        .rev()
+        .find(|&k| index >= FCB_CLASS_BASE[k])
+        .unwrap_or(0);
+    if class == 5 {
+        return true;
+    }
+    let pulses = FCB_PULSES[class] as usize;
+    let mut x = (index - FCB_CLASS_BASE[class]) as i64 >> pulses;
+    for k in (0..pulses).rev() {
+        let q = low((x * FCB_RADIX_INV[3 * class + k] as i64) >> 17) as i64;
+        let digit = low(x - q * FCB_RADIX[3 * class + k] as i64);
+        if !(0..40).contains(&digit) {
+            return false;
+        }
+        x = q;
+    }
+    true
+}
+
+fn codebook_answer(q: &[i64]) -> Vec<i64> {
+    let index = q[0] as u16;
+    if !digits_fit(index) {
+        return vec![0];
+    }
+    let i = codebook::decode(index);
+    [vec![1, i.class as i64], numbers(&i.code)].concat()
+}
+
+// reflection, previous gain, lag, previous lag
+fn excitation_questions(r: &mut Random) -> Vec<Question> {
+    let mut all = Vec::new();
+    for reflection in [-32768, 0, 2047, 2048, 2049, 32767] {
+        for gain in [-32768, 0, 6553, 6554, 13107, 32767] {
+            for (lag, prev) in [(60, 80), (61, 80), (59, 80), (90, 60), (91, 60), (89, 60), (60, 60)] {
+                all.push(vec![reflection, gain, lag, prev]);
+            }
+        }
+    }
+    for _ in 0..120 {
+        let (lag, prev) = (r.below(126) as i64 + 19, r.below(126) as i64 + 19);
+        all.push(vec![r.word() >> 3, r.word(), lag, prev]);
+    }
+    for _ in 0..40 {
+        all.push(vec![r.word(), r.word(), r.word(), r.word()]);
+    }
+    all
+}
+
+fn excitation_answer(q: &[i64]) -> Vec<i64> {
+    let w = words(q);
+    let (first, second) = excitation::interpolation_gains(w[0], w[1], w[2], w[3]);
+    vec![first as i64, second as i64]
+}
+
+// a seed of 160 samples, run after another 160 of the seed before; the answer: the last 160 as they come out (tables matter)
+fn postfilter_questions(_r: &mut Random) -> Vec<Question> {
+    (0..300).map(|n| vec![n]).collect()
+}
+
+fn postfilter_answer(q: &[i64]) -> Vec<i64> {
+    let mut filter = postfilter::OutputFilter::default();
+    let mut first = samples(q[0] + 1000, 160);
+    filter.run(&mut first);
+    let mut block = samples(q[0], 160);
+    filter.run(&mut block);
+    numbers(&block)
+}
