@@ -1,6 +1,7 @@
 // Replays questions that were put to the Rust: a line of numbers in, the answer's numbers out.
 // The first number of a line names the module. The stored output is the Rust's own.
 mod of_fixed;
+mod of_synth;
 
 use libc::STDIN_FILENO;
 use libc::STDOUT_FILENO;
@@ -119,11 +120,47 @@ fn say(numbers: &[i64]) {
     io::write_all(STDOUT_FILENO, b"\n");
 }
 
-// 0 fixed
+// The words of n from a place on, as many as out has room for.
+fn words(n: [i64; 128], from: usize, out: &mut [i16])
+    requires { ⌜ from + length (now out) ≤ 128 ⌝ }
+    ensures { λ _. ⌜ length (now (out .exit)) ≡ length (now (out .entry)) ⌝ }
+{
+    let mut i = 0;
+    while i < out.len() {
+        out[i] = fixed::low(n[from + i]);
+        i += 1;
+    }
+}
+
+fn wide_word(x: i16) -> i64 {
+    x as i64
+}
+
+// The words, with a blank between them and, where something stands before them, in front.
+fn say_words(w: &[i16], follows: bool) {
+    let mut gap = follows;
+    let mut i = 0;
+    while i < w.len() {
+        if gap {
+            io::write_all(STDOUT_FILENO, b" ");
+        }
+        gap = true;
+        say_number(wide_word(w[i]));
+        i += 1;
+    }
+}
+
+fn end_line() {
+    io::write_all(STDOUT_FILENO, b"\n");
+}
+
+// 0 fixed, 1 synth
 fn answer(q: Question) {
     let n = q.numbers;
+    let count = q.count;
     match n[0] {
         0 => of_fixed::answer(n),
+        1 => of_synth::answer(n, count),
         _ => say(&[]),
     }
 }

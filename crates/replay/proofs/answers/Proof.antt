@@ -3,10 +3,6 @@ use lib.ListN.{length}
 use borrow.Author.Needs.{needs}
 use Rattle.replay.proofs.answers.Statement.{statement}
 use Rattle.replay.proofs.answers.Tie as tie
-use Rattle.replay.proofs.answers.Reads as reads
-use Rattle.replay.proofs.answers.Lts as lts
-use Rattle.replay.proofs.answer.Reads as answer-reads
-use Rattle.replay.proofs.line.Reads as line-reads
 
 abbrev Inv-loop : tie.InvT-loop
 Inv-loop s from₀ from = from ≤ length s

@@ -3,10 +3,6 @@ use lib.ListN.{length}
 use borrow.Author.Needs.{needs}
 use Rattle.replay.proofs.line.Statement.{statement}
 use Rattle.replay.proofs.line.Tie as tie
-use Rattle.replay.proofs.line.Reads as reads
-use Rattle.replay.proofs.line.Lts as lts
-use Rattle.replay.proofs.asked.Reads as asked-reads
-use Rattle.replay.proofs.step.Reads as step-reads
 
 abbrev Inv-loop : tie.InvT-loop
 Inv-loop s from r₀ i₀ r i = (from ≤ i) × (i ≤ length s)

@@ -3,10 +3,6 @@ use lib.ListN.{length}
 use borrow.Author.Needs.{needs}
 use Rattle.replay.proofs.say.Statement.{statement}
 use Rattle.replay.proofs.say.Tie as tie
-use Rattle.replay.proofs.say.Reads as reads
-use Rattle.replay.proofs.say.Lts as lts
-use Rattle.io.proofs.write_all.Reads as write-all-reads
-use Rattle.replay.proofs.say_number.Reads as say-number-reads
 
 abbrev Inv-loop : tie.InvT-loop
 Inv-loop numbers i₀ t3 t4 i = i ≤ length numbers

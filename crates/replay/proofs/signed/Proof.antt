@@ -7,8 +7,6 @@ use Rattle.fixed.specs.Abs.{abs-sub}
 use borrow.Author.Needs.{needs}
 use Rattle.replay.proofs.signed.Statement.{statement}
 use Rattle.replay.proofs.signed.Tie as tie
-use Rattle.replay.proofs.signed.Reads as reads
-use Rattle.replay.proofs.signed.Lts as lts
 
 cast-n : tie.Need-cast-n
 cast-n c = search needs

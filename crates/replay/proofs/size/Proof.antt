@@ -4,9 +4,6 @@ use native.Mathlib.Omega.{arith}
 use borrow.Author.Needs.{needs}
 use Rattle.replay.proofs.size.Statement.{statement}
 use Rattle.replay.proofs.size.Tie as tie
-use Rattle.replay.proofs.size.Reads as reads
-use Rattle.replay.proofs.size.Lts as lts
-use Rattle.fixed.proofs.magnitude.Reads as magnitude-reads
 
 magnitude-requires : tie.Need-magnitude-requires
 magnitude-requires c κs = search needs

@@ -5,8 +5,6 @@ use Rattle.fixed.specs.Machine.{sfits-abs, abs-sfits}
 use borrow.Author.Needs.{needs}
 use Rattle.replay.proofs.of_fixed.amount.Statement.{statement}
 use Rattle.replay.proofs.of_fixed.amount.Tie as tie
-use Rattle.replay.proofs.of_fixed.amount.Reads as reads
-use Rattle.replay.proofs.of_fixed.amount.Lts as lts
 
 cast-result : tie.Need-cast-result
 cast-result c = let f = c .fits .x in rw (toZ-ofZ w16 (c .args .x) f) (sfits-abs w32 _ (omega (arith, abs-sfits w16 (c .args .x) f)))

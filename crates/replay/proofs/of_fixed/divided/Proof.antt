@@ -5,10 +5,6 @@ use Rattle.fixed.specs.Bounds.{abs-acc}
 use borrow.Author.Needs.{needs}
 use Rattle.replay.proofs.of_fixed.divided.Statement.{statement}
 use Rattle.replay.proofs.of_fixed.divided.Tie as tie
-use Rattle.replay.proofs.of_fixed.divided.Reads as reads
-use Rattle.replay.proofs.of_fixed.divided.Lts as lts
-use Rattle.fixed.proofs.acc.Reads as acc-reads
-use Rattle.fixed.proofs.restoring_divide.Reads as restoring-divide-reads
 
 acc-requires : tie.Need-acc-requires
 acc-requires c κs = search needs

@@ -2,8 +2,6 @@ use Rattle.fixed.specs.Machine.{widens}
 use borrow.Author.Needs.{needs}
 use Rattle.replay.proofs.of_fixed.wide.Statement.{statement}
 use Rattle.replay.proofs.of_fixed.wide.Tie as tie
-use Rattle.replay.proofs.of_fixed.wide.Reads as reads
-use Rattle.replay.proofs.of_fixed.wide.Lts as lts
 
 cast-result : tie.Need-cast-result
 cast-result c = widens tt (c .fits .x)

@@ -2,8 +2,6 @@ use Rattle.fixed.specs.Machine.{widens}
 use borrow.Author.Needs.{needs}
 use Rattle.replay.proofs.of_fixed.wide32.Statement.{statement}
 use Rattle.replay.proofs.of_fixed.wide32.Tie as tie
-use Rattle.replay.proofs.of_fixed.wide32.Reads as reads
-use Rattle.replay.proofs.of_fixed.wide32.Lts as lts
 
 cast-result : tie.Need-cast-result
 cast-result c = widens tt (c .fits .x)
