@@ -11,3 +11,4 @@ pub mod postfilter;
 pub mod probe;
 pub mod synth;
 pub mod tables;
+pub mod trace;

@@ -2,7 +2,10 @@
 //!
 //! oracle questions MODULE [SEED]        questions for a module, a line each
 //! oracle answers MODULE [TABLES]        the Rust's answers to the questions on standard input
-use std::io::{self, BufRead, Write};
+//! oracle trace TABLES                   every figure of every frame of the recording on standard input, from reset
+//! oracle frames COUNT [SEED]            that many random frames as lines of hexadecimal, damaged ones among them
+//! oracle set KIND [SEED]                a table set of 15,834 bytes (sets.rs says which kinds)
+use std::io::{self, BufRead, Read, Write};
 
 // config.rs has its bytes by `include_bytes!`: here they are those of the lent set.
 macro_rules! include_bytes {
@@ -14,6 +17,7 @@ macro_rules! include_bytes {
 mod celp;
 mod lent;
 mod random;
+mod sets;
 
 use celp::Native;
 
@@ -23,6 +27,22 @@ fn show(numbers: &[i64]) -> String {
         .map(|n| n.to_string())
         .collect::<Vec<_>>()
         .join(" ")
+}
+
+/// One in forty has a padding bit set, one in eighty is no frame at all.
+fn frames(count: usize, seed: u64, out: &mut impl Write) {
+    let mut r = random::Random::new(seed);
+    for _ in 0..count {
+        let mut bytes: Vec<u8> = (0..20).map(|_| r.below(256) as u8).collect();
+        if r.below(40) != 0 {
+            bytes[19] &= 0x3f;
+        }
+        let mut text: String = bytes.iter().map(|b| format!("{b:02x}")).collect();
+        if r.below(80) == 0 {
+            text.truncate(r.below(40) as usize);
+        }
+        writeln!(out, "{text}").unwrap();
+    }
 }
 
 fn main() {
@@ -48,6 +68,21 @@ fn main() {
                     .collect();
                 writeln!(out, "{}", show(&Native::answer(&words[1], &question))).unwrap();
             }
+        }
+        Some("trace") => {
+            lent::fill(&std::fs::read(&words[1]).expect("the table file"));
+            let mut recording = Vec::new();
+            io::stdin().lock().read_to_end(&mut recording).unwrap();
+            Native::trace(&recording, &mut out);
+        }
+        Some("frames") => {
+            let count: usize = words[1].parse().expect("a count");
+            let seed = words.get(2).map_or(1, |s| s.parse().expect("a seed"));
+            frames(count, seed, &mut out);
+        }
+        Some("set") => {
+            let seed = words.get(2).map_or(1, |s| s.parse().expect("a seed"));
+            out.write_all(&sets::set(&words[1], seed)).unwrap();
         }
         _ => eprintln!("oracle questions MODULE [SEED] | oracle answers MODULE [TABLES]"),
     }

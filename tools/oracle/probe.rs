@@ -380,7 +380,7 @@ fn codebook_questions(r: &mut Random) -> Vec<Question> {
 }
 
 // The digits, worked out as codebook.rs does, to leave out what it would panic on or read elsewhere.
-fn digits_fit(index: u16) -> bool {
+pub fn digits_fit(index: u16) -> bool {
     use super::tables::*;
     let index = index.min(FCB_INDEX_LIMIT[0] - 1);
     let class = (0..6)

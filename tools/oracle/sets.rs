@@ -1,0 +1,195 @@
+//! Table sets that obey the set rules, each from a kind and a seed.
+//!
+//! bare      all words 0 but limit 1, pulses 2, ALT entries 1; all bytes 0
+//! speech    cosines, a windowed sinc, decaying pulses, moderate gains: tables as a codec would have them
+//! moderate  speech, with a tenth of the words and floats drawn anew
+//! extreme   words over all 16 bits, floats at ±65,536, ±0 and subnormal, LSP means of -32,768
+use crate::lent::{BYTES, WORDS};
+use crate::random::Random;
+use std::f64::consts::PI;
+
+pub const KINDS: [&str; 4] = ["bare", "speech", "moderate", "extreme"];
+
+pub fn set(kind: &str, seed: u64) -> Vec<u8> {
+    let mut r = Random::new(seed);
+    let mut words = vec![0i16; WORDS];
+    let mut floats = vec![0f32; BYTES / 4];
+    bare(&mut words);
+    match kind {
+        "bare" => {}
+        "speech" => speech(&mut r, &mut words, &mut floats),
+        "moderate" => {
+            speech(&mut r, &mut words, &mut floats);
+            moderate(&mut r, &mut words, &mut floats);
+        }
+        "extreme" => extreme(&mut r, &mut words, &mut floats),
+        _ => panic!("no set {kind}: one of {KINDS:?}"),
+    }
+    let words = words.iter().flat_map(|w| w.to_le_bytes());
+    words
+        .chain(floats.iter().flat_map(|x| x.to_le_bytes()))
+        .collect()
+}
+
+fn bare(words: &mut [i16]) {
+    words[186] = 1;
+    words[193..198].fill(2);
+    words[1483..4683].fill(1);
+}
+
+fn q15(x: f64) -> i16 {
+    (x * 32768.0).round().clamp(-32768.0, 32767.0) as i16
+}
+
+fn spread(r: &mut Random, size: f64) -> f64 {
+    (r.below(20001) as f64 / 10000.0 - 1.0) * size
+}
+
+fn alt_entry(r: &mut Random) -> i16 {
+    let place = r.below(80) as i16 + 1;
+    if r.below(2) == 0 {
+        place
+    } else {
+        -place
+    }
+}
+
+fn speech(r: &mut Random, words: &mut [i16], floats: &mut [f32]) {
+    for i in 0..64 {
+        let at = |k: usize| q15((PI * k as f64 / 64.0).cos()) as i32;
+        words[i] = at(i) as i16;
+        words[64 + i] = (16 * (at(i + 1) - at(i))).clamp(-32768, 32767) as i16;
+    }
+    for i in 0..10 {
+        let angle = PI * (i + 1) as f64 / 11.0;
+        words[128 + i] = q15(angle.cos());
+        words[138 + i] = (angle * 8192.0) as i16;
+    }
+    for n in 0..31 {
+        let x = n as f64 / 3.0;
+        let sinc = if n == 0 { 1.0 } else { (PI * x).sin() / (PI * x) };
+        words[148 + n] = q15(0.98 * sinc * (0.5 + 0.5 * (PI * n as f64 / 31.0).cos()));
+    }
+    words[179..183].copy_from_slice(&[7400, 600, 150, 40]);
+    words[183..186].copy_from_slice(&[-900, 250, -60]);
+    // classes 0 to 4 of two, three, two, two and two pulses, then the twin book
+    words[186] = -1;
+    let bases = [0u16, 6400, 19200, 25600, 32000, 38400];
+    for (k, b) in bases.iter().enumerate() {
+        words[187 + k] = *b as i16;
+    }
+    words[193..198].copy_from_slice(&[2, 3, 2, 2, 2]);
+    for class in 0..5 {
+        let radices: [i32; 3] = if class == 1 { [10, 10, 16] } else { [40, 40, 1] };
+        for k in 0..3 {
+            words[198 + 3 * class + k] = (r.below(30)) as i16;
+            words[213 + 3 * class + k] = radices[k] as i16;
+            words[228 + 3 * class + k] = ((131072 + radices[k] - 1) / radices[k]).min(32767) as i16;
+        }
+    }
+    for k in 0..600 {
+        words[243 + k] = (2 * (k % 40)) as i16 + r.below(2) as i16;
+    }
+    for row in 0..32 {
+        let sign = if r.below(2) == 0 { 1.0 } else { -1.0 };
+        for n in 0..20 {
+            let shape = (-(n as f64) / 4.0).exp() * (1.3 * n as f64).cos();
+            words[843 + 20 * row + n] = q15(sign * 0.3 * shape + spread(r, 0.01));
+        }
+    }
+    for k in 0..3200 {
+        words[1483 + k] = alt_entry(r);
+    }
+    for row in 0..128 {
+        for k in 0..10 {
+            words[4683 + 10 * row + k] = (words[138 + k] as f64 + spread(r, 1100.0)) as i16;
+        }
+    }
+    for i in 0..128 {
+        floats[i] = (16384.0 * (i % 16) as f64 / 16.0 + spread(r, 400.0)).max(0.0) as f32;
+        floats[128 + i] = (0.3 * ((i / 16) as f64 - 3.0) + spread(r, 0.4)) as f32;
+    }
+    floats[256] = 14.5;
+    for i in 0..640 {
+        floats[257 + i] = spread(r, 260.0) as f32;
+    }
+    for mode in 0..2 {
+        let taps = [[0.5, 0.25, 0.15, 0.1], [0.7, 0.15, 0.1, 0.05]][mode];
+        for tap in 0..4 {
+            for k in 0..10 {
+                floats[897 + 40 * mode + 10 * tap + k] = (taps[tap] + spread(r, 0.01)) as f32;
+            }
+        }
+    }
+}
+
+fn moderate(r: &mut Random, words: &mut [i16], floats: &mut [f32]) {
+    for at in (0..186).chain(213..243).chain(843..1483).chain(4683..WORDS) {
+        if r.below(10) == 0 {
+            words[at] = r.word() as i16;
+        }
+    }
+    for x in floats.iter_mut() {
+        if r.below(10) == 0 {
+            *x = *x * spread(r, 3.0) as f32;
+        }
+    }
+}
+
+fn extreme_float(r: &mut Random) -> f32 {
+    match r.below(10) {
+        0 => 65536.0,
+        1 => -65536.0,
+        2 => 0.0,
+        3 => -0.0,
+        4 => f32::from_bits(r.below(0x0080_0000) as u32),
+        5 => -f32::from_bits(r.below(0x0080_0000) as u32),
+        _ => f32::from_bits((r.below(0x4780_0001) as u32) | ((r.below(2) as u32) << 31)),
+    }
+}
+
+fn extreme(r: &mut Random, words: &mut [i16], floats: &mut [f32]) {
+    for at in (0..186).chain(213..243).chain(843..1483).chain(4683..WORDS) {
+        words[at] = r.word() as i16;
+    }
+    if r.below(2) == 0 {
+        words[128 + r.below(10) as usize] = -32768;
+    }
+    words[186] = (r.below(65535) + 1) as u16 as i16;
+    let mut bases: Vec<u16> = (0..5).map(|_| r.below(65536) as u16).collect();
+    bases.sort();
+    for (k, b) in bases.iter().enumerate() {
+        words[188 + k] = *b as i16;
+    }
+    for k in 0..5 {
+        words[193 + k] = 2 + r.below(2) as i16;
+        words[198 + 3 * k] = r.below(30) as i16;
+    }
+    // most radices with an inverse that fits, so that frames are accepted; the rest as they fell
+    for k in 0..15 {
+        if r.below(8) != 0 {
+            let radix = 5 + r.below(36) as i32;
+            words[213 + k] = radix as i16;
+            words[228 + k] = ((131072 + r.below(radix as u64) as i32) / radix) as i16;
+        }
+    }
+    for k in 0..600 {
+        words[243 + k] = if r.below(20) == 0 {
+            r.below(32768) as i16
+        } else {
+            r.below(100) as i16
+        };
+    }
+    for k in 0..3200 {
+        words[1483 + k] = alt_entry(r);
+    }
+    for x in floats.iter_mut() {
+        *x = extreme_float(r);
+    }
+    // gains that are not all at the ends
+    for i in 0..257 {
+        if r.below(2) == 0 {
+            floats[i] = spread(r, if i < 128 { 40000.0 } else { 16.0 }) as f32;
+        }
+    }
+}
