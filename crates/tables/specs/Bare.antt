@@ -1,18 +1,18 @@
 -- Document 01's bare set: all words 0 but limit 1, pulses 2, ALT entries 1; all bytes 0. It is accepted.
-use Prim.Native.Nat.{ℕ, _+_, _*_, _≤_, _<_}
-use mathlib.Core.Path.{_≡_, refl, sym, ap, subst, _∙_}
+use Prim.Native.Nat.{ℕ, _+_, _*_, _<_}
+use mathlib.Core.Path.{_≡_, refl, ap, _∙_}
 use mathlib.Core.List.{List, _++_}
 use mathlib.Core.Logic.{inl}
 use native.Mathlib.Omega.{arith}
-use native.Mathlib.Nat.{le-refl}
-use lib.ListN.{length, getD, replicate, length-replicate, getD-replicate, List·getD-append}
+use lib.ListN.{length, getD, set, replicate, length-replicate, getD-replicate, List·getD-append}
 use lib.Seq.{getD-append-add}
 use lib.Dec.{T}
-use lib.IntN.{ℤ, pos, negsuc}
-use lib.Signed.{_≤ℤ_, leZ-yes}
+use lib.IntN.{ℤ, pos}
+use lib.Signed.{leZ-yes}
 use lib.Ieee.{ofBits, binary32}
-use Rattle.floats.specs.Floats.{bitsAt, floatAt, within}
-use Rattle.tables.specs.Tables.{unsigned, base, entry, check}
+use Rattle.floats.specs.Floats.{bitsAt, within}
+use Rattle.sequence.specs.First.{firstFrom}
+use Rattle.tables.specs.Tables.{unsigned, limitBad, bad, count, place, broken, report, firstFault, check}
 use Rattle.tables.specs.Rules.{Obeys, accepted}
 use Rattle.tables.specs.Sound.{Sound, sound}
 
@@ -119,3 +119,8 @@ bare-accepted = accepted bareWords bareBytes words-long bytes-long bare-obeys
 
 pub bare-sound : Sound bareWords bareBytes
 bare-sound = sound bareWords bareBytes bare-accepted
+
+-- with base 1 at 5 and base 2 at 4, the fault is the falling base's
+falls : firstFault (set (set bareWords 188 (pos 5)) 189 (pos 4)) bareBytes ≡ record { rule = 1; place = 189 }
+unfolding firstFault report broken bad count place limitBad firstFrom bareWords fromLimit fromBases fromPulses
+falls = refl

@@ -1,21 +1,20 @@
 -- The set rules in document 01's words, and that the tests of Tables decide them.
 use Prim.Native.Nat.{ℕ, zero, suc, _+_, _-_, _*_, _≤_, _<_}
-use mathlib.Core.Path.{_≡_, refl, sym, ap, subst, _∙_}
+use mathlib.Core.Path.{_≡_, refl, sym, ap, subst}
 use mathlib.Core.List.{List}
 use mathlib.Core.Bool.{Bool, true, false, _&&_, not, cond, true≢false}
 use mathlib.Core.Logic.{_⊎_, inl, inr}
 use native.Mathlib.Omega.{arith}
-use native.Mathlib.Nat.{not-suc-le-zero}
 use lib.ListN.{length}
-use lib.Dec.{T, eqb, leb, ltb, leb→le, le→leb}
+use lib.Dec.{T, eqb, leb}
 use lib.IntN.{ℤ, pos, negsuc}
 use lib.Signed.{leZ, ltZ, _≤ℤ_, leZ-yes, ltZ-no}
-use borrow.Author.Tests.{leb-true, le-leb, ltb-false, le-ltb, eqb-true, eqb-false, eq-eqb, ne-eqb, not-true, not-false}
+use borrow.Author.Tests.{leb-true, le-leb, ltb-false, le-ltb, eqb-true, eqb-false, eq-eqb, ne-eqb, not-false}
 use Rattle.floats.specs.Floats.{floatAt, within}
 use Rattle.sequence.specs.All.{and-left, and-right}
-use Rattle.sequence.specs.First.{first, some, some-at, some-all}
+use Rattle.sequence.specs.First.{some, some-at, some-all}
 use Rattle.tables.specs.Places.{WORDS, BYTES}
-use Rattle.tables.specs.Tables.{unsignedWord, limit, base, pulses, selector, position, entry, between, limitBad, pulsesBad, selectorBad, positionBad, entryBad, floatBad, count, bad, broken, check}
+use Rattle.tables.specs.Tables.{limit, base, pulses, selector, position, entry, between, limitBad, pulsesBad, selectorBad, positionBad, entryBad, floatBad, count, bad, broken, check}
 
 pub record Obeys (words : List ℤ) (bytes : List ℕ) : Type 0 where
   -- 1: limit at least 1; base 0 is 0 and bases never fall
@@ -168,7 +167,7 @@ module _ (words : List ℤ) (bytes : List ℕ) where
   opened true false c e = absurd (omega arith)
   opened false b c e = absurd (omega arith)
 
-  tests : check words bytes ≡ 0 → (eqb (length words) WORDS ≡ true) × (eqb (length bytes) BYTES ≡ true) × (some (broken words bytes) 7 ≡ false)
+  pub tests : check words bytes ≡ 0 → (eqb (length words) WORDS ≡ true) × (eqb (length bytes) BYTES ≡ true) × (some (broken words bytes) 7 ≡ false)
   unfolding check
   tests e = opened (eqb (length words) WORDS) (eqb (length bytes) BYTES) (some (broken words bytes) 7) e
 

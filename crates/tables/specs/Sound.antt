@@ -1,6 +1,6 @@
 -- An accepted set, as the one premise that what is built on the tables carries, and what it gives.
 use Prim.Native.Nat.{ℕ, zero, suc, _+_, _*_, _≤_, _<_}
-use mathlib.Core.Path.{_≡_, refl, sym, ap, subst, _∙_}
+use mathlib.Core.Path.{_≡_, refl, ap}
 use mathlib.Core.List.{List}
 use mathlib.Core.Bool.{not}
 use mathlib.Core.Logic.{_⊎_, inl, inr, ⊎-elim}
@@ -16,7 +16,7 @@ use lib.Ieee.Scale.{finite}
 use Rattle.floats.specs.Floats.{floatAt, within}
 use Rattle.floats.specs.Within.{within→, within-finite}
 use Rattle.tables.specs.Places.{WORDS, BYTES, FCB-PULSES, FCB-SHAPE-SEL, FCB-POSITIONS}
-use Rattle.tables.specs.Tables.{word, unsigned, unsignedWord, limit, base, pulses, selector, position, entry, pitchGain, logGain, gainBias, low, high, ma, check}
+use Rattle.tables.specs.Tables.{unsigned, unsignedWord, limit, base, selector, position, entry, pitchGain, logGain, gainBias, low, high, ma, check}
 use Rattle.tables.specs.Rules.{Obeys, accepted, accepted-only}
 
 -- the bytes of an accepted set
