@@ -65,9 +65,9 @@ unfolding wrap signed residue
 trunc32-top = refl
 
 -- -3 / 2 is -2
-shift-down : shift (negsuc 2) (negsuc 0) ≡ negsuc 1
+rounds-down : shift (negsuc 2) (negsuc 0) ≡ negsuc 1
 unfolding shift wrap signed residue
-shift-down = refl
+rounds-down = refl
 
 -- of an amount of -64 the low six bits are 0
 shift-masked : shift (pos 5) (negsuc 63) ≡ pos 5
