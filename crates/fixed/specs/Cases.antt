@@ -76,5 +76,10 @@ shift-masked = refl
 
 -- -1 by one half is -1
 half-of-minus-one : mul32x16 (negsuc 0) (pos 16384) ≡ negsuc 0
-unfolding mul32x16 fold mul mulUs wrap signed residue
+unfolding mul32x16 wrap signed residue
 half-of-minus-one = refl
+
+-- the largest product does not wrap: -2 ^ 31 by -1
+largest-product : mul32x16 (negsuc (2 ^ 31 - 1)) (negsuc (2 ^ 15 - 1)) ≡ pos (2 ^ 31)
+unfolding mul32x16 wrap signed residue
+largest-product = refl
