@@ -3,8 +3,9 @@ use native.Mathlib.Omega.{arith}
 use mathlib.Core.Bool.{Bool, true, false, cond}
 use mathlib.Core.Path.{_≡_, refl, ap, sym, _∙_}
 use Prim.Native.Nat.{ℕ, zero, suc, _+_, _-_, _*_, _≤_, _<_}
-use lib.Dec.{ltb}
+use lib.Dec.{T, ltb, le→leb}
 use lib.IntN.{ℤ, pos, negsuc, negℤ, subℕ, _+ℤ_, _-ℤ_, _*ℤ_, +ℤ-assoc, +ℤ-idr, +ℤ-one, -ℤ-one, +ℤ-comm, ℤ-ind, sucℤ-*ℤ, predℤ-*ℤ, zero-*ℤ, *ℤ-comm, *ℤ-one, one, negℤ-negℤ}
+use lib.Signed.{leZ, _≤ℤ_, leZ-yes}
 use borrow.Author.Tests.{lt-ltb, le-ltb, ltb-true, ltb-false}
 
 -- ---- a - b of naturals: it is `subℕ a b`, and two differences are one where their cross sums are
@@ -27,6 +28,15 @@ sub-same a b c d e = go (ltb a b) refl
     go : (t : Bool) → ltb a b ≡ t → cond t (negsuc (b - suc a)) (pos (a - b)) ≡ subℕ c d
     go true t = ap negsuc (omega (arith, ltb-true a b t)) ∙ sym (sub-below c d (omega (arith, ltb-true a b t)))
     go false t = ap pos (omega (arith, ltb-false a b t)) ∙ sym (sub-above c d (omega (arith, ltb-false a b t)))
+
+pub sub-le : (a b c d : ℕ) → a + d ≤ c + b → subℕ a b ≤ℤ subℕ c d
+sub-le a b c d h = leZ-yes (go (ltb a b) (ltb c d) refl refl)
+  where
+    go : (s t : Bool) → ltb a b ≡ s → ltb c d ≡ t → T (leZ (cond s (negsuc (b - suc a)) (pos (a - b))) (cond t (negsuc (d - suc c)) (pos (c - d))))
+    go true true p q = le→leb (d - suc c) (b - suc a) (omega (arith, ltb-true a b p, ltb-true c d q))
+    go true false p q = tt
+    go false true p q = absurd (omega (arith, ltb-false a b p, ltb-true c d q))
+    go false false p q = le→leb (a - b) (c - d) (omega (arith, ltb-false a b p, ltb-false c d q))
 
 -- ---- the product: over a sum, and of three
 pub mul-add : (a b c : ℤ) → (a +ℤ b) *ℤ c ≡ a *ℤ c +ℤ b *ℤ c

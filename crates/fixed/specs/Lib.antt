@@ -10,3 +10,4 @@ pub mod Bounds
 pub mod Sums
 pub mod Shifts
 pub mod Products
+pub mod Division
