@@ -7,9 +7,10 @@ use native.Mathlib.Nat.{add-mul, suc-mul, mul-comm, mul-assoc, mul-one, pow-suc,
 use lib.Arith.{digits-div, digits-mod}
 use lib.Dec.{ltb, leb·zero}
 use lib.Pow.{pow-pos, pow-mono, pow-add}
-use lib.IntN.{ℤ, pos, negsuc, _-ℤ_, _+ℤ_, _*ℤ_}
+use lib.IntN.{ℤ, pos, _*ℤ_}
 use lib.Signed.{leZ}
 use borrow.Author.Tests.{ltb-true, ltb-false}
+use Rattle.sequence.specs.Repeated.{repeated}
 use Rattle.fixed.specs.Fixed.{residue, acc, fold, low, restoringStep, restoringDivide}
 use Rattle.fixed.specs.Integers.{sub-is, sub-below, sub-above}
 use Rattle.fixed.specs.Wrap.{acc-fits, wrap-cong, wrap-fits}
@@ -81,7 +82,7 @@ below-sixteen x y = ap (λ (z : ℕ). z % 65536) (add-comm (x * 65536) y) ∙ ad
 
 module _ (n d : ℕ) (p : 0 < d) (b : d < 32768) (h : n < d * 65536) where
   pub divide-is : (k : ℕ) → k ≤ 16 → restoringDivide (pos n) (pos d) k ≡ pos (n % (d * 2 ^ (16 - k)) * 2 ^ k + n / (d * 2 ^ (16 - k)))
-  unfolding restoringDivide
+  unfolding restoringDivide repeated
   divide-is zero l = ap pos (sym (simp (mod-eq-of-lt h, div-eq-of-lt h) (omega arith)))
   divide-is (suc k) l =
       let e : ℕ = d * 2 ^ (16 - suc k) in

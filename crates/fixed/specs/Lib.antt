@@ -11,3 +11,4 @@ pub mod Sums
 pub mod Shifts
 pub mod Products
 pub mod Division
+pub mod Normal

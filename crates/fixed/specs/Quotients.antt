@@ -1,10 +1,10 @@
 -- `shrZ z m` is z / m, rounded down: with the residue it gives z back, and only one quotient does.
 use native.Mathlib.Omega.{arith}
-use mathlib.Core.Path.{_≡_, refl, ap, sym, _∙_}
-use Prim.Native.Nat.{ℕ, zero, suc, _+_, _-_, _*_, _/_, _%_, _≤_, _<_}
+use mathlib.Core.Path.{_≡_, ap, sym, _∙_}
+use Prim.Native.Nat.{ℕ, suc, _+_, _-_, _*_, _/_, _%_, _<_}
 use native.Mathlib.Nat.{mod-lt, div-add-mod', suc-mul, mul-lt-mul-of-pos-right}
 use lib.Arith.{digits-div}
-use lib.IntN.{ℤ, pos, negsuc, negℤ, subℕ, _+ℤ_, _*ℤ_, +ℤ-assoc}
+use lib.IntN.{ℤ, pos, negsuc, _+ℤ_, _*ℤ_, +ℤ-assoc}
 use lib.Signed.{shrZ}
 use Rattle.fixed.specs.Fixed.{residue}
 use Rattle.fixed.specs.Integers.{minus-plus, sub-below, mul-add, mul-mul}

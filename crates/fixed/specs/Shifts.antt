@@ -1,8 +1,8 @@
 -- `shift` by less than 64 is the plain shift, and `exp` is 30 less the place of the highest digit that is no copy of the sign.
 use native.Mathlib.Omega.{arith}
 use mathlib.Core.Bool.{Bool, true, false, cond}
-use mathlib.Core.Path.{_≡_, refl, ap, sym, subst, _∙_}
-use Prim.Native.Nat.{ℕ, zero, suc, _+_, _-_, _*_, _%_, _^_, _≤_, _<_}
+use mathlib.Core.Path.{_≡_, refl, sym, subst, _∙_}
+use Prim.Native.Nat.{ℕ, suc, _+_, _-_, _*_, _^_, _≤_, _<_}
 use native.Mathlib.Nat.{mod-eq-of-lt, pow-suc, lt-of-not-le, not-le-of-lt, le-trans, le-of-suc-le-suc}
 use lib.Count.{leadingZeros, leading-le, leading-length, leading-unique}
 use lib.Dec.{T, eqb, eqb→eq, leb→le}

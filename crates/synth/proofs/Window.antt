@@ -2,7 +2,7 @@
 use native.Mathlib.Omega.{arith}
 use native.Mathlib.Numerals.{add-one}
 use mathlib.Core.List.{List, [], _∷_, _++_}
-use mathlib.Core.Path.{_≡_, refl, ap, sym, _∙_}
+use mathlib.Core.Path.{_≡_, ap, sym, _∙_}
 use lib.IntN.{ℤ, pos}
 use lib.ListN.{getD, length, take, drop, set, length-append}
 use lib.Seq.{take-add, drop-at, length-take-le, take-suc-set, drop-append-le}

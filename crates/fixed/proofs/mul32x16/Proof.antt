@@ -1,11 +1,10 @@
 -- Each half's product as its call gave it; together they are the one product.
 use borrow.Author.Needs.{needs}
-use native.Mathlib.Omega.{arith}
-use mathlib.Core.Path.{_≡_, refl, _∙_}
-use lib.IntN.{ℤ, pos, _*ℤ_, _+ℤ_, natAbs}
+use mathlib.Core.Path.{_≡_, _∙_}
+use lib.IntN.{ℤ}
 use lib.Signed.{shrZ}
 use mir.Syntax.{w16, w64}
-use mir.Val.{SFits, toZ, ofZ}
+use mir.Val.{toZ, ofZ}
 use mir.ValLaws.{toZ-ofZ}
 use Rattle.fixed.specs.Fixed as Fixed
 use Rattle.fixed.specs.Machine.{back, shr-sfits, abs-sfits}

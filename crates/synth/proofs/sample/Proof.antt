@@ -1,9 +1,9 @@
 -- One call after the other; the input at bit 16 and the rounding constant have 33 bits.
 use borrow.Author.Needs.{needs}
 use native.Mathlib.Omega.{arith}
-use mathlib.Core.Path.{_≡_, refl, _∙_, ap}
+use mathlib.Core.Path.{_≡_, _∙_, ap}
 use lib.IntN.{ℤ, pos, natAbs, _+ℤ_, _*ℤ_}
-use Prim.Native.Nat.{ℕ, _≤_, _<_}
+use Prim.Native.Nat.{ℕ, _≤_}
 use mir.Syntax.{w16, w64}
 use mir.Val.{SFits, toZ, ofZ}
 use mir.ValLaws.{toZ-ofZ}

@@ -1,13 +1,11 @@
 -- The array's first n + 10 places are the window after n outputs, and the outputs so far are its rest.
 use borrow.Author.Needs.{needs}
 use native.Mathlib.Omega.{arith}
-use native.Mathlib.Numerals.{add-one}
 use mathlib.Core.Path.{_≡_, refl, _∙_, ap, sym}
-use mathlib.Core.List.{List, [], _∷_, _++_}
 use lib.IntN.{ℤ, pos}
-use lib.ListN.{length, getD, take, drop, set, length-set, length-append, drop-of-length-le}
+use lib.ListN.{length, getD, take, drop, length-set, length-append, drop-of-length-le}
 use lib.Seq.{take-at, take-all}
-use Prim.Native.Nat.{ℕ, suc, _≤_, _<_, _-_, _+_}
+use Prim.Native.Nat.{ℕ, _≤_, _-_, _+_}
 use mir.Syntax.{w16}
 use mir.Val.{toZ, ofZ}
 use Rattle.synth.specs.Synth as Synth
