@@ -5,7 +5,7 @@ use Prim.Native.Nat.{ℕ, zero, suc, _+_, _-_}
 use lib.IntN.{ℤ, pos, negsuc, negℤ, _+ℤ_, _*ℤ_}
 use lib.ListN.{length, getD, drop, replicate}
 use Rattle.sequence.specs.Total.{total}
-use Rattle.fixed.specs.Fixed.{residue, signed, wrap, clamp, acc, fold, sat, hi, mul, shift}
+use Rattle.fixed.specs.Fixed.{residue, signed, wrap, clamp, fold, sat, hi, mul, shift}
 
 -- the term that a coefficient brings into the prediction from the ten outputs h before a sample, h's last being the last
 abbrev pub term : List ℤ → List ℤ → ℕ → ℤ

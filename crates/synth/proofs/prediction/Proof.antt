@@ -3,13 +3,13 @@ use borrow.Author.Needs.{needs}
 use native.Mathlib.Omega.{arith}
 use mathlib.Core.Path.{_≡_, refl, _∙_, ap}
 use mathlib.Core.List.{List}
-use lib.IntN.{ℤ, pos, negℤ, natAbs, _-ℤ_}
-use lib.ListN.{length, getD}
-use Prim.Native.Nat.{ℕ, _≤_, _<_, _-_, _+_}
+use lib.IntN.{ℤ, pos, negℤ, _-ℤ_}
+use lib.ListN.{getD}
+use Prim.Native.Nat.{ℕ, _≤_, _-_, _+_}
 use mir.Syntax.{w16, w64}
 use mir.Val.{SFits, toZ, ofZ}
 use mir.ValLaws.{toZ-ofZ}
-use Rattle.sequence.specs.Total.{total, total-none}
+use Rattle.sequence.specs.Total.{total}
 use Rattle.fixed.specs.Fixed as Fixed
 use Rattle.fixed.specs.Abs.{abs-neg, minus-is}
 use Rattle.fixed.specs.Machine.{sfits-abs, back}

@@ -1,9 +1,9 @@
 -- One call after the other; the input at bit 16 and the rounding constant have 33 bits.
 use borrow.Author.Needs.{needs}
 use native.Mathlib.Omega.{arith}
-use mathlib.Core.Path.{_≡_, refl, _∙_, ap}
+use mathlib.Core.Path.{_≡_, _∙_, ap}
 use lib.IntN.{ℤ, pos, natAbs, _+ℤ_, _*ℤ_}
-use Prim.Native.Nat.{ℕ, _≤_, _<_}
+use Prim.Native.Nat.{ℕ, _≤_}
 use mir.Syntax.{w16, w64}
 use mir.Val.{SFits, toZ, ofZ}
 use mir.ValLaws.{toZ-ofZ}
@@ -39,8 +39,8 @@ module _ (c : tie.After-shift) where
   m-fits : SFits w64 (x *ℤ pos 65536)
   m-fits = sfits-abs w64 _ (omega (arith, m-le))
 
-  t-fits : SFits w64 (x *ℤ pos 65536 +ℤ pos 32768)
-  t-fits = sfits-abs w64 _ (omega (arith, m-le, abs-add (x *ℤ pos 65536) (pos 32768)))
+  t-fits : (r : ℕ) → r ≤ 65536 → SFits w64 (x *ℤ pos 65536 +ℤ pos r)
+  t-fits r h = sfits-abs w64 _ (omega (arith, m-le, abs-add (x *ℤ pos 65536) (pos r)))
 
 cast-fold : tie.Need-cast-fold
 cast-fold c = widens tt (c .before .before .fits .x)
@@ -49,7 +49,7 @@ mul-fold : tie.Need-mul-fold
 mul-fold c = simp (x-back c) (m-fits c)
 
 add-fold : tie.Need-add-fold
-add-fold c = simp (x-back c, toZ-ofZ w64 _ (m-fits c)) (t-fits c)
+add-fold c = simp (x-back c, toZ-ofZ w64 _ (m-fits c)) (t-fits c _ (omega arith))
 
 fold-requires : tie.Need-fold-requires
 fold-requires c κs = search needs
@@ -69,7 +69,7 @@ returns c =
     back w16 (c .hi .result) (c .hi .ok)
     ∙ simp (back w64 (t .result) (t .ok)) at (c .hi .ensures)
     ∙ ap (λ (z : ℤ). Fixed.hi z) (simp (back w64 (f .result) (f .ok)) at (t .ensures))
-    ∙ ap (λ (z : ℤ). Fixed.hi (Fixed.sat z)) (simp (x-back k, v-is k, toZ-ofZ w64 _ (m-fits k), toZ-ofZ w64 _ (t-fits k)) at (f .ensures))
+    ∙ ap (λ (z : ℤ). Fixed.hi (Fixed.sat z)) (simp (x-back k, v-is k, toZ-ofZ w64 _ (m-fits k), toZ-ofZ w64 _ (t-fits k 32768 (omega arith))) at (f .ensures))
 
 pub sample-spec : {M : Type 1} → statement M
 sample-spec = tie.close (tie.spec prediction-requires shift-requires cast-fold mul-fold add-fold fold-requires sat-requires hi-requires returns)
