@@ -1,0 +1,9 @@
+pub mod Bits
+pub mod Digits
+pub mod Places
+pub mod Scattered
+pub mod Bytes
+pub mod Changed
+pub mod Widths
+pub mod RoundTrips
+pub mod Cases
