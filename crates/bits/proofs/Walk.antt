@@ -1,11 +1,11 @@
 -- The walk along the table, field by field, that the unpacker and the packer share; and the step within a field of each.
 use mathlib.Core.Path.{_≡_, refl, sym, ap, _∙_}
-use mathlib.Core.List.{List, [], _∷_, _++_, map}
-use Prim.Native.Nat.{ℕ, zero, suc, _+_, _-_, _*_, _/_, _%_, _^_, _≤_, _<_}
+use mathlib.Core.List.{List, [], _++_, map}
+use Prim.Native.Nat.{ℕ, suc, _+_, _-_, _*_, _/_, _%_, _^_, _≤_, _<_}
 use native.Mathlib.Nat.{pow-suc}
 use native.Mathlib.Numerals.{add-one}
 use native.Mathlib.Omega.{arith}
-use lib.Pow.{pow-mono, pow-pos}
+use lib.Pow.{pow-mono}
 use lib.ListN.{length, getD, take, drop, set, replicate, length-append, length-drop, List·getD-map}
 use lib.Seq.{drop-cons, drop-drop, take-at, drop-at}
 use Rattle.sequence.specs.Table.{table}
@@ -13,7 +13,6 @@ use Rattle.bits.specs.Bits.{groups, flat, places, widths, inverted, read
 use Rattle.bits.specs.Digits.{length-down}
 use Rattle.bits.specs.Places.{places-count, groups-count, widths-count, width-le}
 use Rattle.bits.specs.Scattered.{scatter-append}
-use Rattle.bits.specs.Widths.{read-bit-lt}
 
 -- one digit more: the number stays below 2 ^ n
 pub room : (n t t′ v b : ℕ) → t ≡ suc t′ → t ≤ n → v < 2 ^ (n - t) → b < 2 → (v * 2 + b < 2 ^ n) × (v * 2 + b < 2 ^ (n - t′))

@@ -5,7 +5,7 @@ use mathlib.Core.List.{List, [], _∷_, _++_, map}
 use Prim.Native.Nat.{ℕ, zero, suc, _+_, _*_, _/_, _%_, _^_}
 use lib.Bits.{bitAnd, bitXor}
 use lib.Dec.{leb, eqb}
-use lib.ListN.{length, getD, take, drop, set, replicate}
+use lib.ListN.{length, getD, set, replicate}
 use Rattle.sequence.specs.First.{first}
 use Rattle.sequence.specs.Table.{table}
 use Rattle.bits.specs.declared.HalfParams.{HalfParams}
@@ -57,6 +57,19 @@ half h =
 unfoldable pub groups : List (List ℕ)
 groups = half 0 ++ half 1
 
+-- code0 and stage2_low of the first half, gain_low1 of the second
+example-code0 : getD groups 2 [] ≡ 18 ∷ 19 ∷ 125 ∷ 123 ∷ 84 ∷ 82 ∷ 124 ∷ 122 ∷ 89 ∷ 87 ∷ 129 ∷ 127 ∷ 88 ∷ 86 ∷ 128 ∷ 126 ∷ []
+unfolding groups
+example-code0 = refl
+
+example-stage2-low : getD groups 8 [] ≡ 8 ∷ 9 ∷ 10 ∷ 11 ∷ 81 ∷ 79 ∷ []
+unfolding groups
+example-stage2-low = refl
+
+example-gain-low1 : getD groups 13 [] ≡ 74 ∷ 75 ∷ 76 ∷ 77 ∷ []
+unfolding groups
+example-gain-low1 = refl
+
 abbrev pub flat : List (List ℕ) → List ℕ
 flat [] = []
 flat (g ∷ gs) = g ++ flat gs
@@ -66,6 +79,10 @@ places = flat groups
 
 unfoldable pub widths : List ℕ
 widths = map length groups
+
+example-widths : widths ≡ 4 ∷ 4 ∷ 16 ∷ 16 ∷ 3 ∷ 3 ∷ 1 ∷ 7 ∷ 6 ∷ 6 ∷ 8 ∷ 5 ∷ 4 ∷ 4 ∷ 16 ∷ 16 ∷ 3 ∷ 3 ∷ 1 ∷ 7 ∷ 6 ∷ 6 ∷ 8 ∷ 5 ∷ []
+unfolding widths groups
+example-widths = refl
 
 -- ---- reading
 
@@ -85,6 +102,11 @@ inverted i = oneIf (eqb i 79) + oneIf (eqb i 83) + oneIf (eqb i 85)
 -- bit i is bit i mod 8 of byte i / 8, lowest first
 unfoldable pub bitAt : List ℕ → ℕ → ℕ
 bitAt p i = getD p (i / 8) 0 / 2 ^ (i % 8) % 2
+
+-- bit 10 is the third of byte 1
+example-bit : bitAt (0 ∷ 4 ∷ []) 10 ≡ 1
+unfolding bitAt
+example-bit = refl
 
 unfoldable pub readBit : List ℕ → ℕ → ℕ
 readBit p i = (bitAt p i + inverted i) % 2

@@ -1,5 +1,5 @@
 -- Bytes and their bits, lowest first: each give the other back.
-use mathlib.Core.Path.{_≡_, refl, sym, ap, _∙_}
+use mathlib.Core.Path.{_≡_, ap, _∙_}
 use mathlib.Core.List.{List}
 use Prim.Native.Nat.{ℕ, _+_, _*_, _/_, _%_, _^_, _<_}
 use native.Mathlib.Nat.{mod-lt}
@@ -7,7 +7,7 @@ use native.Mathlib.Omega.{arith}
 use lib.Dec.{lit<}
 use lib.ListN.{length, getD}
 use Rattle.sequence.specs.Table.{table, getD-table, table-of}
-use Rattle.bits.specs.Bits.{read, down, bitAt, byteOf}
+use Rattle.bits.specs.Bits.{read, bitAt, byteOf}
 use Rattle.bits.specs.Digits.{Digits, read-digit, read-digits, down-same}
 
 pub bit-lt : (p : List ℕ) (i : ℕ) → bitAt p i < 2

@@ -1,6 +1,6 @@
 -- The change by 3: done twice it is undone; with the two inversions of absolute_pitch it cancels, and the inversion of frame bit 79 stays.
 use mathlib.Core.Path.{_≡_, refl, sym, ap, _∙_}
-use mathlib.Core.List.{List, map}
+use mathlib.Core.List.{List}
 use Prim.Native.Nat.{ℕ, zero, suc, _+_, _-_, _*_, _/_, _%_, _^_, _<_}
 use native.Mathlib.Nat.{mod-lt}
 use native.Mathlib.Decide.{ℕ-discrete}
@@ -77,3 +77,13 @@ undone x c d hc hd = flip x ((c + 1) % 2) ((d + 1) % 2) (mod-lt (c + 1) (lit< tt
 pub cancelled : (p : List ℕ) → fieldsOf p ≡ frameParams (gather (plain p))
 unfolding fieldsOf gather groups readBit inverted
 cancelled p = ap (λ (v : ℕ). frameParams (set (gather (readBit p)) 10 v)) (undone _ (bitAt p 85) (bitAt p 83) (bit-lt p 85) (bit-lt p 83))
+
+-- so the pitch's last two digits are frame bits 85 and 83 as they stand
+pub pitch-cancelled : (p : List ℕ) → fieldsOf p .first .«absolute_pitch» % 4 ≡ bitAt p 85 * 2 + bitAt p 83
+unfolding gather groups
+pitch-cancelled p = rw (cancelled p) (omega (arith, bit-lt p 85, bit-lt p 83))
+
+-- and the last digit of stage2_low is the opposite of frame bit 79
+pub bit-79-stays : (p : List ℕ) → fieldsOf p .first .«stage2_low» % 2 ≡ (bitAt p 79 + 1) % 2
+unfolding gather groups
+bit-79-stays p = rw (cancelled p) (omega (arith, bit-lt p 79))

@@ -2,15 +2,15 @@
 use mathlib.Core.Path.{_≡_, refl, sym, ap, ap₂, _∙_}
 use mathlib.Core.Logic.{⊎-elim}
 use mathlib.Core.List.{List, [], _∷_, _++_, map, map-append}
-use Prim.Native.Nat.{ℕ, zero, suc, _+_, _*_, _/_, _%_, _^_, _≤_, _<_}
+use Prim.Native.Nat.{ℕ, zero, suc, _+_, _*_, _/_, _%_, _^_, _<_}
 use native.Mathlib.Nat.{le-refl, div-lt-iff-lt-mul, mod-lt, mod-eq-of-lt, pow-succ', add-assoc, le-of-suc-le-suc, not-suc-le-zero, mul-assoc, add-mul, eq-or-lt-of-le}
 use native.Mathlib.Numerals.{add-one}
 use native.Mathlib.Omega.{arith}
 use lib.Arith.{mod-mul}
 use lib.Dec.{lit<}
 use lib.Pow.{shr-shr, pow-pos}
-use lib.ListN.{length, getD, take, drop, length-map, length-append, length-drop, take-append-drop}
-use lib.Seq.{length-take-le, take-at, drop-at, getD-drop}
+use lib.ListN.{length, getD, take, drop, length-map, length-append}
+use lib.Seq.{take-at, drop-at}
 use Rattle.bits.specs.Bits.{read, down, digits, spell, flat}
 
 -- a list of digits

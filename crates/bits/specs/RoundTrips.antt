@@ -10,12 +10,11 @@ use lib.Arith.{mod-mul}
 use lib.Bits.{bitAnd, and-high}
 use lib.Pow.{shr-shr}
 use lib.Dec.{lit<, lit≤}
-use lib.ListN.{length, getD, replicate, getD-replicate, length-map}
+use lib.ListN.{length, getD, replicate, getD-replicate}
 use Rattle.sequence.specs.Table.{table, length-table}
 use Rattle.bits.specs.declared.FrameParams.{FrameParams}
-use Rattle.bits.specs.declared.Unpacked.{Unpacked}
 use Rattle.bits.specs.declared.Unpacked.the-variants.{Fields}
-use Rattle.bits.specs.Bits.{groups, places, widths, flat, inverted, bitAt, readBit, gather, changed, frameParams, list, fieldsOf, unpack, spell, scatter, spread, byteOf, frameOf, widthNumber, pack, packed}
+use Rattle.bits.specs.Bits.{groups, places, widths, inverted, bitAt, readBit, gather, changed, frameParams, list, fieldsOf, unpack, spell, scatter, spread, byteOf, frameOf, widthNumber, pack, packed}
 use Rattle.bits.specs.Digits.{Digits, Within, read-spell, spell-read, length-spell, spell-digits}
 use Rattle.bits.specs.Places.{count, places-count, place-below, place-once, groups-count, widths-count}
 use Rattle.bits.specs.Scattered.{scatter-other, read-scatter, scatter-read, scatter-digits}

@@ -2,7 +2,7 @@
 use mathlib.Core.Path.{_≡_, refl, sym, ap, _∙_}
 use mathlib.Core.Bool.{Bool, true, false, cond}
 use mathlib.Core.List.{List, [], _∷_, _++_, map}
-use Prim.Native.Nat.{ℕ, zero, suc, _+_, _*_, _%_, _^_, _<_}
+use Prim.Native.Nat.{ℕ, zero, suc, _+_, _*_, _^_, _<_}
 use native.Mathlib.Nat.{mod-lt, mod-eq-of-lt}
 use native.Mathlib.Omega.{arith}
 use borrow.Author.Tests.{eqb-true, lt-leb, leb-false}
@@ -14,10 +14,9 @@ use Rattle.sequence.specs.First.{first, first-before, first-all}
 use Rattle.sequence.specs.Table.{table, table-of}
 use Rattle.bits.specs.declared.HalfParams.{HalfParams}
 use Rattle.bits.specs.declared.FrameParams.{FrameParams}
-use Rattle.bits.specs.declared.Unpacked.{Unpacked}
 use Rattle.bits.specs.declared.Unpacked.the-variants.{Fields, Refused}
 use Rattle.bits.specs.Bits.{half, groups, widths, inverted, bitAt, read, readBit, gather, changed, frameParams, halfList, list, fieldsOf, unpack, number, pack, widthNumber, joined, gainIndex}
-use Rattle.bits.specs.Digits.{Within, Digits, map-digits, read-lt}
+use Rattle.bits.specs.Digits.{Within, map-digits, read-lt}
 use Rattle.bits.specs.Places.{widths-count}
 use Rattle.bits.specs.Changed.{within-changed, length-changed}
 

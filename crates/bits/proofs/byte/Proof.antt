@@ -1,8 +1,7 @@
 -- t digits are to come: v followed by them is the byte, and v leaves room for them.
-use mathlib.Core.Path.{_≡_, refl, ap, _∙_}
-use Prim.Native.Nat.{ℕ, suc, _+_, _-_, _*_, _^_, _<_, _≤_}
+use mathlib.Core.Path.{_≡_, refl}
+use Prim.Native.Nat.{suc, _+_, _-_, _*_, _^_, _<_, _≤_}
 use native.Mathlib.Omega.{arith}
-use borrow.Author.Needs.{needs}
 use lib.ListN.{getD}
 use Rattle.bits.specs.Bits.{read, down, byteOf}
 use Rattle.bits.proofs.Walk.{room}

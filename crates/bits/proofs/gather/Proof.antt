@@ -1,11 +1,9 @@
 -- Field by field along the table, each from its own places.
-use mathlib.Core.Path.{_≡_, refl, ap, _∙_}
+use mathlib.Core.Path.{refl, ap, _∙_}
 use mathlib.Core.List.{List, map}
 use Prim.Native.Nat.{ℕ, _-_}
 use native.Mathlib.Omega.{arith}
-use borrow.Author.Needs.{needs}
 use denote.Ref.{now}
-use lib.ListN.{take, drop}
 use Rattle.sequence.specs.Table.{table, Written, written-more, written-end}
 use Rattle.bits.specs.Bits as Bits
 use Rattle.bits.proofs.Walk.{Walk, Step, walk-none, walk-more, field, gathered}

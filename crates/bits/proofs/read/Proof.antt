@@ -1,12 +1,12 @@
 -- The digits to come, after v, are the number; v leaves room for them.
 use mathlib.Core.Path.{_≡_, refl, ap, _∙_}
-use Prim.Native.Nat.{ℕ, _-_}
+use Prim.Native.Nat.{_-_}
 use denote.Ref.{now}
 use native.Mathlib.Omega.{arith}
 use borrow.Author.Needs.{needs}
 use lib.ListN.{getD, take, drop}
 use lib.Pow.{pow-pos}
-use mathlib.Core.List.{List, map}
+use mathlib.Core.List.{map}
 use Rattle.bits.specs.Bits as Bits
 use Rattle.bits.specs.Places.{place-below}
 use Rattle.bits.proofs.Walk.{Reading, reading-more, room}

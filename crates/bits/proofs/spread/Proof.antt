@@ -1,6 +1,5 @@
 -- Field by field along the table, each to its own places.
-use mathlib.Core.Path.{_≡_, refl}
-use Prim.Native.Nat.{ℕ, _-_}
+use Prim.Native.Nat.{_-_}
 use native.Mathlib.Omega.{arith}
 use borrow.Author.Needs.{needs}
 use Rattle.bits.proofs.Walk.{Walk, Step, walk-none, walk-more, Spread, spread-none, spread-more, spread-end}

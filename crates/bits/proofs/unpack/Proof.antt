@@ -1,6 +1,5 @@
 -- By the two tests, and the fields that `gather` gives.
 use denote.Ref.{now}
-use mathlib.Core.Path.{_∙_}
 use lib.Bits.{bitAnd}
 use lib.ListN.{getD}
 use borrow.Author.Tests.{eq-eqb, ne-eqb}

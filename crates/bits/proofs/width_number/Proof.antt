@@ -5,7 +5,6 @@ use mathlib.Core.List.{List}
 use borrow.Author.Tests.{ne-eqb}
 use Prim.Native.Nat.{ℕ, _-_, _≤_, _^_}
 use native.Mathlib.Omega.{arith}
-use borrow.Author.Needs.{needs}
 use lib.Dec.{leb}
 use lib.ListN.{getD}
 use Rattle.sequence.specs.First.{first, firstFrom, first-more, first-found, first-none}
