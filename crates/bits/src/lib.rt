@@ -276,7 +276,10 @@ fn inverted(i: usize) -> u8
     ensures { λ r. ⌜ (r ≡ Bits.inverted i) × (r < 2) ⌝ }
 {
     match i {
-        79 | 83 | 85 => 1,
+        // the last bit of the first half's stage2_low
+        79 => 1,
+        // the last two of its absolute_pitch
+        83 | 85 => 1,
         _ => 0,
     }
 }
