@@ -99,7 +99,8 @@ pub record Writing (r bits : List ℕ) (v j t : ℕ) : Type 0 where
   pub rest : scatter bits (take t (drop j places)) (digits t v) ≡ r
 
 -- x goes to the next place, i
-pub writing-more : {r bits : List ℕ} {v j t i x : ℕ} → Writing r bits v j t → 0 < t → i ≡ getD places j 0 → x ≡ (v / 2 ^ (t - 1) % 2 + inverted i) % 2 → Writing r (set bits i x) v (j + 1) (t - 1)
+pub writing-more : {r bits : List ℕ} {v j t i x : ℕ} → Writing r bits v j t → 0 < t → i ≡ getD places j 0
+    → x ≡ (v / 2 ^ (t - 1) % 2 + inverted i) % 2 → Writing r (set bits i x) v (j + 1) (t - 1)
 writing-more {r} {bits} {v} {j} {t} {i} {x} w h e d =
     let s : t ≡ suc (t - 1) = omega arith in
     record {
@@ -124,7 +125,8 @@ spread-more {fs} {bits} {bits′} {at} {k} {w} i l h e s d =
     let g : List ℕ = getD groups k [] in
     let v : ℕ = getD fs k 0 in
     let a : flat (drop k groups) ≡ g ++ flat (drop (suc k) groups) = ap flat (drop-cons groups k [] (omega (arith, groups-count))) in
-    let b : spell (drop k widths) (drop k fs) ≡ digits w v ++ spell (drop (suc k) widths) (drop (suc k) fs) = rw (drop-cons widths k 0 (omega (arith, widths-count)), drop-cons fs k 0 (omega arith), ← e) in
+    let b : spell (drop k widths) (drop k fs) ≡ digits w v ++ spell (drop (suc k) widths) (drop (suc k) fs) =
+    rw (drop-cons widths k 0 (omega (arith, widths-count)), drop-cons fs k 0 (omega arith), ← e) in
     let x : bits′ ≡ scatter bits g (digits w v) = rw (s .here) at d in
     let y : length (digits w v) ≡ length g = length-down w _ ∙ sym (s .full) in
     record {

@@ -15,7 +15,7 @@ use Rattle.bits.specs.declared.Unpacked.the-variants.{Fields, Refused}
 
 -- ---- the places
 
--- a frame bit of half h, by its name in bits.rs
+-- the frame bits that bits.rs calls q(k), a(k) and b(k) in half h
 abbrev pub q : ℕ → ℕ → ℕ
 q h k = 39 * h + k
 
@@ -25,7 +25,7 @@ a h k = 78 + 20 * h + k
 abbrev pub b : ℕ → ℕ → ℕ
 b h k = 118 + 20 * h + k
 
--- n bits of bits.rs's q, from q(k) on
+-- q(k) and so on, n of them
 abbrev pub run : ℕ → ℕ → ℕ → List ℕ
 run h k zero = []
 run h k (suc n) = q h k ∷ run h (suc k) n
@@ -37,7 +37,7 @@ code h i k =
     b h (7 + k) ∷ b h (5 + k) ∷ a h (6 + k) ∷ a h (4 + k) ∷ b h (6 + k) ∷ b h (4 + k) ∷ a h (11 + k) ∷ a h (9 + k) ∷
     b h (11 + k) ∷ b h (9 + k) ∷ a h (10 + k) ∷ a h (8 + k) ∷ b h (10 + k) ∷ b h (8 + k) ∷ []
 
--- the bits of each field of half h, highest first. mod.rs's first change, that gain_low1 of half 1 is frame bits 74 to 77, is q(35) to q(38) there too.
+-- the bits of each field of half h, highest first; mod.rs's first change, that gain_low1 of half 1 is frame bits 74 to 77, is q(35) to q(38) there too
 abbrev pub half : ℕ → List (List ℕ)
 half h =
     run h 23 4 ∷  -- gain_low0
@@ -54,6 +54,7 @@ half h =
     (run h 27 3 ++ (a h 15 ∷ a h 13 ∷ [])) ∷  -- relative_pitch
     []
 
+-- the bits of each of the 24 fields, the first half's before the second's
 unfoldable pub groups : List (List ℕ)
 groups = half 0 ++ half 1
 
@@ -70,13 +71,16 @@ example-gain-low1 : getD groups 13 [] ≡ 74 ∷ 75 ∷ 76 ∷ 77 ∷ []
 unfolding groups
 example-gain-low1 = refl
 
+-- the lists one after the other
 abbrev pub flat : List (List ℕ) → List ℕ
 flat [] = []
 flat (g ∷ gs) = g ++ flat gs
 
+-- the table: the 158 places, field after field
 unfoldable pub places : List ℕ
 places = flat groups
 
+-- how many of them each field has
 unfoldable pub widths : List ℕ
 widths = map length groups
 
@@ -91,6 +95,7 @@ abbrev pub read : ℕ → List ℕ → ℕ
 read v [] = v
 read v (d ∷ ds) = read (v * 2 + d) ds
 
+-- a Bool as a digit
 abbrev pub oneIf : Bool → ℕ
 oneIf true = 1
 oneIf false = 0
@@ -108,6 +113,7 @@ example-bit : bitAt (0 ∷ 4 ∷ []) 10 ≡ 1
 unfolding bitAt
 example-bit = refl
 
+-- frame bit i as it is read
 unfoldable pub readBit : List ℕ → ℕ → ℕ
 readBit p i = (bitAt p i + inverted i) % 2
 
@@ -121,6 +127,7 @@ changed fs = set fs 10 (bitXor (getD fs 10 0) 3)
 
 -- ---- the fields by name
 
+-- the half whose fields start at place «at» of the list
 abbrev pub halfParams : List ℕ → ℕ → HalfParams
 halfParams fs at =
     record {
@@ -138,14 +145,17 @@ halfParams fs at =
       «relative_pitch» = getD fs (at + 11) 0;
     }
 
+-- the two halves of 24 fields
 abbrev pub frameParams : List ℕ → FrameParams
 frameParams fs = record { first = halfParams fs 0; second = halfParams fs 12 }
 
+-- the fields of a half in the table's order
 abbrev pub halfList : HalfParams → List ℕ
 halfList h =
     h .«gain_low0» ∷ h .«gain_low1» ∷ h .code0 ∷ h .code1 ∷ h .«gain_high0» ∷ h .«gain_high1» ∷
     h .mode ∷ h .stage1 ∷ h .«stage2_low» ∷ h .«stage2_high» ∷ h .«absolute_pitch» ∷ h .«relative_pitch» ∷ []
 
+-- the 24 fields in the table's order
 abbrev pub list : FrameParams → List ℕ
 list f = halfList (f .first) ++ halfList (f .second)
 
@@ -159,11 +169,12 @@ fieldsOf p = frameParams (changed (gather (readBit p)))
 unfoldable pub unpack : List ℕ → Unpacked
 unpack p = cond (eqb (length p) 20) (cond (eqb (bitAnd (getD p 19 0) 192) 0) (Fields (fieldsOf p)) (Refused 6)) (Refused 3)
 
--- what an answer stands for: a number, 0 for acceptance, and fields, all zero on a refusal
+-- document 01's number of an answer, 0 for acceptance
 abbrev pub number : Unpacked → ℕ
 number (Fields f) = 0
 number (Refused n) = n
 
+-- and its fields, all zero on a refusal
 abbrev pub fields : Unpacked → FrameParams
 fields (Fields f) = f
 fields (Refused n) = frameParams (replicate 24 0)
@@ -217,9 +228,10 @@ packed f out = cond (eqb (pack f out) 0) (frameOf f) out
 
 -- ---- the gain index
 
+-- the low three bits of one before the low four of the other
 abbrev pub joined : ℕ → ℕ → ℕ
 joined high low = high % 8 * 16 + low % 16
 
--- of the half's first subframe, 0, or its second
+-- of the half's first subframe, where sub is 0, or its second
 unfoldable pub gainIndex : HalfParams → ℕ → ℕ
 gainIndex h sub = cond (eqb sub 0) (joined (h .«gain_high0») (h .«gain_low0»)) (joined (h .«gain_high1») (h .«gain_low1»))

@@ -89,8 +89,10 @@ module _ (f : ℕ → ℕ) where
   read-spell (g ∷ gs) (v ∷ vs) w e =
       let n : ℕ = length g in
       let x : map f g ++ map f (flat gs) ≡ digits n v ++ spell (map length gs) vs = sym (map-append f g (flat gs)) ∙ e in
-      let front : map f g ≡ digits n v = rw (take-at (map f g) (map f (flat gs)) n (length-map g f), take-at (digits n v) (spell (map length gs) vs) n (length-down n _)) at (ap (take n) x) in
-      let back : map f (flat gs) ≡ spell (map length gs) vs = rw (drop-at (map f g) (map f (flat gs)) n (length-map g f), drop-at (digits n v) (spell (map length gs) vs) n (length-down n _)) at (ap (drop n) x) in
+      let front : map f g ≡ digits n v =
+      rw (take-at (map f g) (map f (flat gs)) n (length-map g f), take-at (digits n v) (spell (map length gs) vs) n (length-down n _)) at (ap (take n) x) in
+      let back : map f (flat gs) ≡ spell (map length gs) vs =
+      rw (drop-at (map f g) (map f (flat gs)) n (length-map g f), drop-at (digits n v) (spell (map length gs) vs) n (length-down n _)) at (ap (drop n) x) in
       ap₂ _∷_ (ap (read 0) front ∙ read-digits n 0 v ∙ rw (mod-eq-of-lt (w .each 0 (omega arith))) (omega arith))
       (read-spell gs vs (record { same = omega arith; each = λ k h. w .each (suc k) (omega arith) }) back)
 

@@ -5,5 +5,7 @@ pub mod Scattered
 pub mod Bytes
 pub mod Changed
 pub mod Widths
+pub mod Calls
+pub mod GainIndex
 pub mod RoundTrips
 pub mod Cases

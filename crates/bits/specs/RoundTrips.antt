@@ -20,7 +20,8 @@ use Rattle.bits.specs.Places.{count, places-count, place-below, place-on
 use Rattle.bits.specs.Scattered.{scatter-other, read-scatter, scatter-read, scatter-digits}
 use Rattle.bits.specs.Bytes.{bit-lt, bit-of-bytes, bytes-of-bits}
 use Rattle.bits.specs.Changed.{changed-twice, length-changed, within-changed}
-use Rattle.bits.specs.Widths.{read-bit-lt, gather-within, fields-list, fields-within, unpack-accepted, pack-accepted, width-accepts}
+use Rattle.bits.specs.Widths.{read-bit-lt, gather-within, fields-list, fields-within, width-accepts}
+use Rattle.bits.specs.Calls.{unpack-accepted, pack-accepted}
 
 -- ---- the bits of fields
 

@@ -1,21 +1,19 @@
--- Accepted fields are within their widths, by name; and the gain index.
+-- Fields within their widths: by name, as the packer tests it, and of every frame that is read.
 use mathlib.Core.Path.{_≡_, refl, sym, ap, _∙_}
 use mathlib.Core.Bool.{Bool, true, false, cond}
 use mathlib.Core.List.{List, [], _∷_, _++_, map}
-use Prim.Native.Nat.{ℕ, zero, suc, _+_, _*_, _^_, _<_}
-use native.Mathlib.Nat.{mod-lt, mod-eq-of-lt}
+use Prim.Native.Nat.{ℕ, zero, suc, _+_, _^_, _<_}
+use native.Mathlib.Nat.{mod-lt}
 use native.Mathlib.Omega.{arith}
 use borrow.Author.Tests.{eqb-true, lt-leb, leb-false}
-use lib.Bits.{bitAnd}
-use lib.Dec.{leb, eqb, lit<}
+use lib.Dec.{leb, lit<}
 use lib.ListN.{length, getD, length-map, List·getD-append, List·getD-map}
 use lib.Seq.{getD-append-add}
 use Rattle.sequence.specs.First.{first, first-before, first-all}
 use Rattle.sequence.specs.Table.{table, table-of}
 use Rattle.bits.specs.declared.HalfParams.{HalfParams}
 use Rattle.bits.specs.declared.FrameParams.{FrameParams}
-use Rattle.bits.specs.declared.Unpacked.the-variants.{Fields, Refused}
-use Rattle.bits.specs.Bits.{half, groups, widths, inverted, bitAt, read, readBit, gather, changed, frameParams, halfList, list, fieldsOf, unpack, number, pack, widthNumber, joined, gainIndex}
+use Rattle.bits.specs.Bits.{half, groups, widths, inverted, bitAt, read, readBit, gather, changed, frameParams, halfList, list, fieldsOf, widthNumber}
 use Rattle.bits.specs.Digits.{Within, map-digits, read-lt}
 use Rattle.bits.specs.Places.{widths-count}
 use Rattle.bits.specs.Changed.{within-changed, length-changed}
@@ -37,15 +35,24 @@ pub record InWidths (h : HalfParams) : Type 0 where
 
 -- ---- as the packer tests it
 
+-- field k is wider than its bits
+abbrev wide : List ℕ → ℕ → Bool
+wide fs k = leb (2 ^ getD widths k 0) (getD fs k 0)
+
 pub width-accepts : (fs : List ℕ) → Within widths fs → widthNumber fs ≡ 0
 unfolding widthNumber
-width-accepts fs w = let e = first-all (λ k. leb (2 ^ getD widths k 0) (getD fs k 0)) 24 (λ k h. lt-leb (2 ^ getD widths k 0) (getD fs k 0) (w .each k (omega (arith, widths-count)))) in rw e
+width-accepts fs w =
+    let e = first-all (wide fs) 24 (λ k h. lt-leb (2 ^ getD widths k 0) (getD fs k 0) (w .each k (omega (arith, widths-count)))) in
+    rw e
 
 pub width-accepted : (fs : List ℕ) → length fs ≡ 24 → widthNumber fs ≡ 0 → Within widths fs
 unfolding widthNumber
 width-accepted fs l e =
-    let n : first (λ k. leb (2 ^ getD widths k 0) (getD fs k 0)) 24 ≡ 24 = eqb-true (first (λ k. leb (2 ^ getD widths k 0) (getD fs k 0)) 24) 24 (none _ e) in
-    record { same = l ∙ sym widths-count; each = λ k h. leb-false (2 ^ getD widths k 0) (getD fs k 0) (first-before (λ j. leb (2 ^ getD widths j 0) (getD fs j 0)) 24 k (omega (arith, widths-count))) }
+    let n : first (wide fs) 24 ≡ 24 = eqb-true (first (wide fs) 24) 24 (none _ e) in
+    record {
+      same = l ∙ sym widths-count;
+      each = λ k h. leb-false (2 ^ getD widths k 0) (getD fs k 0) (first-before (wide fs) 24 k (omega (arith, widths-count)));
+    }
   where
     none : (b : Bool) → _≡_ {A = ℕ} (cond b 0 8) 0 → b ≡ true
     none true e = refl
@@ -73,9 +80,9 @@ half-names h w =
       «relative_pitch» = w 11 (lit< tt);
     }
 
-names : (f : FrameParams) → Within widths (list f) → InWidths (f .first) × InWidths (f .second)
+pub within-names : (f : FrameParams) → Within widths (list f) → InWidths (f .first) × InWidths (f .second)
 unfolding widths groups
-names f w = (
+within-names f w = (
   half-names (f .first) (λ k h. rw (List·getD-append (halfList (f .first)) (halfList (f .second)) 0 k h, List·getD-append halfWidths halfWidths 0 k h) at (w .each k (omega arith))),
   half-names (f .second) (λ k h. rw (getD-append-add (halfList (f .first)) (halfList (f .second)) k 0, getD-append-add halfWidths halfWidths k 0) at (w .each (12 + k) (omega arith))),
 )
@@ -89,11 +96,13 @@ more w {v} {ws} {vs} h r = record { same = ap suc (r .same); each = at }
 
 half-within : (h : HalfParams) → InWidths h → (ws vs : List ℕ) → Within ws vs → Within (halfWidths ++ ws) (halfList h ++ vs)
 half-within h w ws vs r =
-    more 4 (w .«gain_low0») (more 4 (w .«gain_low1») (more 16 (w .code0) (more 16 (w .code1) (more 3 (w .«gain_high0») (more 3 (w .«gain_high1») (more 1 (w .mode) (more 7 (w .stage1) (more 6 (w .«stage2_low») (more 6 (w .«stage2_high») (more 8 (w .«absolute_pitch») (more 5 (w .«relative_pitch») r)))))))))))
+    more 4 (w .«gain_low0») (more 4 (w .«gain_low1») (more 16 (w .code0) (more 16 (w .code1)
+    (more 3 (w .«gain_high0») (more 3 (w .«gain_high1») (more 1 (w .mode) (more 7 (w .stage1)
+    (more 6 (w .«stage2_low») (more 6 (w .«stage2_high») (more 8 (w .«absolute_pitch») (more 5 (w .«relative_pitch») r)))))))))))
 
-within : (f : FrameParams) → InWidths (f .first) → InWidths (f .second) → Within widths (list f)
+pub names-within : (f : FrameParams) → InWidths (f .first) → InWidths (f .second) → Within widths (list f)
 unfolding widths groups
-within f x y = half-within (f .first) x halfWidths (halfList (f .second)) (half-within (f .second) y [] [] (record { same = refl; each = λ k h. absurd (omega arith) }))
+names-within f x y = half-within (f .first) x halfWidths (halfList (f .second)) (half-within (f .second) y [] [] (record { same = refl; each = λ k h. absurd (omega arith) }))
 
 -- ---- of the fields that are read
 
@@ -124,68 +133,3 @@ fields-list p = list-params (changed (gather (readBit p))) (length-changed (gath
 
 pub fields-within : (p : List ℕ) → Within widths (list (fieldsOf p))
 fields-within p = rw (fields-list p) (within-changed (gather (readBit p)) (gather-within p))
-
--- ---- of the two calls
-
--- an accepted payload is in order, and its fields are those of the definition
-pub unpack-accepted : (p : List ℕ) (f : FrameParams) → unpack p ≡ Fields f → (length p ≡ 20) × (bitAnd (getD p 19 0) 192 ≡ 0) × (fieldsOf p ≡ f)
-unfolding unpack
-unpack-accepted p f e =
-    let t = by (eqb (length p) 20) (eqb (bitAnd (getD p 19 0) 192) 0) (fieldsOf p) e in
-    (eqb-true (length p) 20 (t .0), eqb-true (bitAnd (getD p 19 0) 192) 0 (t .1), t .2)
-  where
-    by : (s t : Bool) (x : FrameParams) → cond s (cond t (Fields x) (Refused 6)) (Refused 3) ≡ Fields f → (s ≡ true) × (t ≡ true) × (x ≡ f)
-    by true true x e = (refl, refl, cc)
-    by true false x e = (refl, cc, cc)
-    by false t x e = (cc, cc, cc)
-
-pub unpack-within : (p : List ℕ) (f : FrameParams) → unpack p ≡ Fields f → InWidths (f .first) × InWidths (f .second)
-unpack-within p f e = names f (rw (unpack-accepted p f e .2) at (fields-within p))
-
--- document 01's number of the answer
-pub unpack-number : (p : List ℕ) → number (unpack p) ≡ cond (eqb (length p) 20) (cond (eqb (bitAnd (getD p 19 0) 192) 0) 0 6) 3
-unfolding unpack
-unpack-number p = by (eqb (length p) 20) (eqb (bitAnd (getD p 19 0) 192) 0)
-  where
-    by : (s t : Bool) → number (cond s (cond t (Fields (fieldsOf p)) (Refused 6)) (Refused 3)) ≡ cond s (cond t 0 6) 3
-    by true true = refl
-    by true false = refl
-    by false t = refl
-
--- fields within their widths are packed
-pub pack-accepts : (f : FrameParams) (out : List ℕ) → InWidths (f .first) → InWidths (f .second) → length out ≡ 20 → pack f out ≡ 0
-unfolding pack
-pack-accepts f out x y l = simp (l, width-accepts (list f) (within f x y))
-
--- and what is packed was within them
-pub pack-accepted : (f : FrameParams) (out : List ℕ) → pack f out ≡ 0 → (length out ≡ 20) × Within widths (list f)
-unfolding pack
-pack-accepted f out e =
-    let t = by (eqb (length out) 20) (widthNumber (list f)) e in
-    (eqb-true (length out) 20 (t .0), width-accepted (list f) refl (t .1))
-  where
-    by : (s : Bool) (n : ℕ) → cond s n 3 ≡ 0 → (s ≡ true) × (n ≡ 0)
-    by true n e = (refl, e)
-    by false n e = absurd (omega arith)
-
--- ---- the gain index
-
-joined-lt : (high low : ℕ) → joined high low < 128
-joined-lt high low = omega arith
-
-pub gain-index-lt : (h : HalfParams) (sub : ℕ) → gainIndex h sub < 128
-unfolding gainIndex
-gain-index-lt h sub = by (eqb sub 0)
-  where
-    by : (b : Bool) → cond b (joined (h .«gain_high0») (h .«gain_low0»)) (joined (h .«gain_high1») (h .«gain_low1»)) < 128
-    by true = joined-lt (h .«gain_high0») (h .«gain_low0»)
-    by false = joined-lt (h .«gain_high1») (h .«gain_low1»)
-
--- within their widths the two parts are joined as they are
-pub gain-index-first : (h : HalfParams) → InWidths h → gainIndex h 0 ≡ h .«gain_high0» * 16 + h .«gain_low0»
-unfolding gainIndex
-gain-index-first h w = rw (mod-eq-of-lt (w .«gain_high0»), mod-eq-of-lt (w .«gain_low0»))
-
-pub gain-index-second : (h : HalfParams) → InWidths h → gainIndex h 1 ≡ h .«gain_high1» * 16 + h .«gain_low1»
-unfolding gainIndex
-gain-index-second h w = rw (mod-eq-of-lt (w .«gain_high1»), mod-eq-of-lt (w .«gain_low1»))

@@ -49,8 +49,11 @@ loop-again : tie.Need-loop-again Inv-loop μ-loop
 loop-again c =
     let l = c .before .before .before .loop in
     let s = step (c .before) in
-    let p : List ℕ = now (c .before .before .before .before .before .args .payload) in
-    (s .next, written-more (field (Bits.readBit p)) 24 (l .fields) (l .k) (c .read .result) (l .inv .1) (omega arith) (c .read .ensures ∙ ap (λ (g : List ℕ). Bits.read 0 (map (Bits.readBit p) g)) (s .here)))
+    let p : List ℕ = now (c .before .before .before .before .before .args .payload) in (
+      s .next,
+      written-more (field (Bits.readBit p)) 24 (l .fields) (l .k) (c .read .result) (l .inv .1) (omega arith)
+          (c .read .ensures ∙ ap (λ (g : List ℕ). Bits.read 0 (map (Bits.readBit p) g)) (s .here)),
+    )
 
 returns : tie.Need-returns Inv-loop μ-loop
 returns c =
