@@ -477,6 +477,7 @@ pub fn unpack(payload: &[u8]) -> Unpacked
         return Unpacked::Refused(6);
     }
     let mut fields = gather(payload);
+    // absolute_pitch of the first half
     fields[10] = fields[10] ^ 3;
     let first = half_params(fields, 0);
     let second = half_params(fields, 12);
@@ -493,6 +494,7 @@ pub fn pack(f: FrameParams, out: &mut [u8]) -> u8
     let mut fields = list(f);
     let number = width_number(fields);
     if number == 0 {
+        // absolute_pitch of the first half, changed back
         fields[10] = fields[10] ^ 3;
         let bits = spread(fields);
         put_bytes(&bits, out);
