@@ -1,0 +1,11 @@
+pub mod Bits
+pub mod Digits
+pub mod Places
+pub mod Scattered
+pub mod Bytes
+pub mod Changed
+pub mod Widths
+pub mod Calls
+pub mod GainIndex
+pub mod RoundTrips
+pub mod Cases
