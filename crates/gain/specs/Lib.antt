@@ -1,0 +1,3 @@
+pub mod Elementary
+pub mod Gain
+pub mod Ranges
