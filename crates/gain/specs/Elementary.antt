@@ -39,16 +39,16 @@ ln x =
     let p = add p0 (mul z (add p2 (mul z (add p4 (mul z p6))))) in
     add (add (sub (sub (mul (mul f z) p) (mul d (bits 0x37f4_0417))) (mul (bits 0x3f00_0000) z)) f) (mul d (bits 0x3f31_7400))
 
--- a float whose last seven binary digits are 64 + k, k being the whole number nearest to x / ln 2
+-- a float whose last six binary digits are 32 + k, k being the whole number nearest to x / ln 2
 unfoldable pub scaled : Float → Float
-scaled x = add (mul x (bits 0x3fb8_aa3b)) (bits 0x4b40_0040)
+scaled x = add (mul x (bits 0x3fb8_aa3b)) (bits 0x4b40_0020)
 
 -- e ^ x is 2 ^ k * e ^ r, r = x - k * ln 2 = g + c, and e ^ r is 1 + r + r ^ 2 * q
 unfoldable pub exp : Float → Float
 unfolding scaled
 exp x =
-    let n = toBits binary32 (scaled x) % 128 in
-    let k = sub (ofInt binary32 (pos n)) (bits 0x4280_0000) in
+    let n = toBits binary32 (scaled x) % 64 in
+    let k = sub (ofInt binary32 (pos n)) (bits 0x4200_0000) in
     let g = sub x (mul k (bits 0x3f31_7400)) in
     let c = mul k (bits 0x37f4_0417) in
     let r = add g c in
@@ -56,7 +56,7 @@ exp x =
     let q0 = add (mul (bits 0x3e2a_aa49) r) (bits 0x3eff_fffe) in
     let q2 = add (mul (bits 0x3c09_1ce7) r) (bits 0x3d2a_ac69) in
     let q = add (mul (add (mul (bits 0x3ab5_1220) z) q2) z) q0 in
-    mul (add (add (add (mul z q) c) g) (bits 0x3f80_0000)) (bits ((n + 63) * 0x80_0000))
+    mul (add (add (add (mul z q) c) g) (bits 0x3f80_0000)) (bits ((n + 95) * 0x80_0000))
 
 -- ln 1 is +0 exactly; ln 80 and e ^ 10.5 are 4.3820267 and 36315.504
 cases : (ln (bits 0x3f80_0000) ≡ bits 0) × (ln (bits 0x42a0_0000) ≡ bits 0x408c_3990) × (exp (bits 0) ≡ bits 0x3f80_0000) × (exp (bits 0x4128_0000) ≡ bits 0x470d_db81)
@@ -66,4 +66,4 @@ cases = (refl, refl, refl, refl)
 -- of a finite x it is no NaN, even where it overflows
 pub scaled-no-nan : (x : Float) → T (finite x) → T (not (isNan (scaled x)))
 unfolding scaled
-scaled-no-nan x h = add-no-nan binary32 (mul x (bits 0x3fb8_aa3b)) (bits 0x4b40_0040) (mul-no-nan binary32 x (bits 0x3fb8_aa3b) h (unfold ofBits in tt)) (unfold ofBits in tt)
+scaled-no-nan x h = add-no-nan binary32 (mul x (bits 0x3fb8_aa3b)) (bits 0x4b40_0020) (mul-no-nan binary32 x (bits 0x3fb8_aa3b) h (unfold ofBits in tt)) (unfold ofBits in tt)

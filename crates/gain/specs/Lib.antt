@@ -1,3 +1,4 @@
 pub mod Elementary
 pub mod Gain
+pub mod Sized
 pub mod Ranges

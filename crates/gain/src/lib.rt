@@ -46,9 +46,9 @@ pub fn exp(x: f32) -> f32
     requires { ⌜ T (finite x) ⌝ }
     ensures { λ r. ⌜ r ≡ Elementary.exp x ⌝ }
 {
-    let t = x * 1.442695 + 12582976.0;
-    let n = f32::to_bits(t) % 128;
-    let k = n as f32 - 64.0;
+    let t = x * 1.442695 + 12582944.0;
+    let n = f32::to_bits(t) % 64;
+    let k = n as f32 - 32.0;
     let g = x - k * 0.69317627;
     let c = k * 2.9088971e-5;
     let r = g + c;
@@ -56,7 +56,7 @@ pub fn exp(x: f32) -> f32
     let q0 = 0.16666521 * r + 0.49999994;
     let q2 = 0.008368707 * r + 0.04166833;
     let q = (0.0013814606 * z + q2) * z + q0;
-    let w = f32::from_bits((n + 63) * 0x80_0000);
+    let w = f32::from_bits((n + 95) * 0x80_0000);
     (((z * q + c) + g) + 1.0) * w
 }
 

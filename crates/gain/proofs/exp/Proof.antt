@@ -1,5 +1,5 @@
--- A finite x times a constant plus another is no NaN, even where it overflows, and the exponent's field is at most 190: no range of x enters.
-use Prim.Native.Nat.{_+_, _*_, _%_}
+-- A finite x times a constant plus another is no NaN, even where it overflows, and the exponent's field is at most 158: no range of x enters.
+use Prim.Native.Nat.{_%_}
 use mathlib.Core.Path.{refl}
 use native.Mathlib.Omega.{arith}
 use borrow.Author.Needs.{needs}
@@ -16,7 +16,7 @@ float-to-bits-n c = scaled-no-nan (c .args .x) (c .pre)
 
 int-to-float-k : tie.Need-int-to-float-k
 unfolding inFloat scaled
-int-to-float-k c = le→leb (toBits binary32 (scaled (c .before .args .x)) % 128) 16777216 (omega arith)
+int-to-float-k c = le→leb (toBits binary32 (scaled (c .before .args .x)) % 64) 16777216 (omega arith)
 
 add-w : tie.Need-add-w
 add-w c = search needs

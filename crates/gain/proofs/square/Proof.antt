@@ -1,5 +1,5 @@
 -- The machine's readings of the signed numbers are the numbers, since each fits.
-use mathlib.Core.Path.{_≡_, refl, sym, ap, _∙_, subst}
+use mathlib.Core.Path.{_≡_, sym, ap, _∙_, subst}
 use Prim.Native.Nat.{ℕ, _≤_}
 use native.Mathlib.Nat.{lt-of-lt-of-le, lt-of-le-of-lt}
 use lib.Dec.{T, lit≤, lit<}

@@ -8,7 +8,7 @@ use lib.ListN.{getD}
 use mir.Syntax.{w16}
 use mir.ValLaws.{toZ-ofZ}
 use denote.Ref.{now}
-use Rattle.sequence.specs.Total.{total, total-none, total-again, total-end}
+use Rattle.sequence.specs.Total.{total, total-again, total-end}
 use Rattle.gain.specs.Gain.{square, squares}
 use Rattle.gain.proofs.squares.Statement.{statement}
 use Rattle.gain.proofs.squares.Tie as tie

@@ -10,7 +10,7 @@ use Rattle.gain.specs.declared.Decoded.{Decoded}
 use Rattle.gain.specs.declared.CodeGainArgument.{CodeGainArgument}
 use Rattle.gain.specs.Elementary.{add}
 use Rattle.gain.specs.Gain.{step, argument, codeGain}
-use Rattle.gain.specs.Ranges.{Carried, argument-carried}
+use Rattle.gain.specs.Ranges.{argument-carried}
 use Rattle.gain.proofs.step.Statement.{statement}
 use Rattle.gain.proofs.step.Tie as tie
 
