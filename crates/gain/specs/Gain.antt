@@ -9,6 +9,7 @@ use lib.Ieee.{Float, nan, binary32, le, ofBits, ofInt}
 use lib.Ieee as Ieee
 use Rattle.sequence.specs.Total.{total}
 use Rattle.floats.specs.Floats.{quantise}
+use Rattle.tables.specs.Tables.{pitchGain, logGain, gainBias}
 use Rattle.gain.specs.declared.CodeGainArgument.{CodeGainArgument}
 use Rattle.gain.specs.declared.CodeGainArgument.the-variants.{Below, Above, Within}
 use Rattle.gain.specs.declared.Decoded.{Decoded}
@@ -62,6 +63,26 @@ step history e pitch correction bias = record {
   code = pos (codeGain (argument (add (prediction history e bias) correction)));
   history = correction ∷ getD history 0 nan ∷ getD history 1 nan ∷ getD history 2 nan ∷ [];
 }
+
+-- the step of a gain index and a code, by the tables in the bytes
+unfoldable pub decode : List ℕ → List Float → ℕ → List ℤ → Decoded
+unfolding step energy
+decode bytes history index code = step history (energy code) (pitchGain bytes index) (logGain bytes index) (gainBias bytes)
+
+-- mod.rs's figure: the weighted history, plus the bias, plus the correction
+unfoldable pub amplitude : List ℕ → List Float → ℕ → Float
+unfolding weighted
+amplitude bytes history index = add (add (weighted history) (gainBias bytes)) (logGain bytes index)
+
+-- the 128 log gains, summed in order from 0, divided by 128
+unfoldable pub mean : List ℕ → Float
+unfolding total
+mean bytes = div (total add (bits 0) (logGain bytes) 128) (bits 0x4300_0000)
+
+-- the history at reset
+unfoldable pub initialHistory : List ℕ → List Float
+unfolding mean
+initialHistory bytes = mean bytes ∷ mean bytes ∷ mean bytes ∷ mean bytes ∷ []
 
 -- a code of eighty threes has the energy 9, one of eighty -32,768s the energy 2 ^ 30
 energies : (energy (replicate 80 (pos 3)) ≡ bits 0x4110_0000) × (energy (replicate 80 (negsuc 32767)) ≡ bits 0x4e80_0000)

@@ -1,9 +1,10 @@
 // The gain step, with the logarithm and the exponential that it takes.
 ghost use mathlib.Core.Path.{_≡_};
 ghost use mathlib.Core.Bool.{not};
-ghost use Prim.Native.Nat.{_≤_};
+ghost use Prim.Native.Nat.{_≤_, _<_};
 ghost use lib.Dec.{T};
 ghost use lib.IntN.{pos};
+ghost use lib.ListN.{length};
 ghost use lib.Ieee.{isNan};
 ghost use lib.Ieee.Scale.{finite};
 ghost use Rattle.gain.specs.Elementary as Elementary;
@@ -144,4 +145,51 @@ fn step(history: [f32; 4], e: f32, pitch: f32, correction: f32, bias: f32) -> De
         code: gain,
         history: shifted,
     }
+}
+
+// The gains of a subframe, by its gain index and its code, and the history after it.
+pub fn decode(bytes: &[u8], history: [f32; 4], index: usize, code: &[i16; 80]) -> Decoded
+    requires { ⌜ length (now bytes) ≡ 3908 ⌝ ∗ ⌜ index < 128 ⌝ }
+    ensures { λ r. ⌜ r ≡ Gain.decode (now (bytes .entry)) history index (now (code .entry)) ⌝ }
+{
+    let pitch = tables::pitch_gain(bytes, index);
+    let correction = tables::log_gain(bytes, index);
+    step(
+        history,
+        energy(code),
+        pitch,
+        correction,
+        tables::gain_bias(bytes),
+    )
+}
+
+// The figure that mod.rs reports: the prediction without the energy's term, plus bias and correction.
+pub fn amplitude(bytes: &[u8], history: [f32; 4], index: usize) -> f32
+    requires { ⌜ length (now bytes) ≡ 3908 ⌝ ∗ ⌜ index < 128 ⌝ }
+    ensures { λ r. ⌜ r ≡ Gain.amplitude (now (bytes .entry)) history index ⌝ }
+{
+    weighted(history) + tables::gain_bias(bytes) + tables::log_gain(bytes, index)
+}
+
+// The mean of the 128 log gains, summed in order.
+fn mean(bytes: &[u8]) -> f32
+    requires { ⌜ length (now bytes) ≡ 3908 ⌝ }
+    ensures { λ r. ⌜ r ≡ Gain.mean (now (bytes .entry)) ⌝ }
+{
+    let mut t = 0.0f32;
+    let mut i = 0usize;
+    while i < 128 {
+        t = t + tables::log_gain(bytes, i);
+        i += 1;
+    }
+    t / 128.0
+}
+
+// The history at reset: four times that mean.
+pub fn initial_history(bytes: &[u8]) -> [f32; 4]
+    requires { ⌜ length (now bytes) ≡ 3908 ⌝ }
+    ensures { λ r. ⌜ r ≡ Gain.initialHistory (now (bytes .entry)) ⌝ }
+{
+    let m = mean(bytes);
+    [m, m, m, m]
 }
