@@ -15,11 +15,12 @@ use Rattle.floats.specs.Floats.{within, quantise}
 use Rattle.floats.specs.Within.{Within, within→, →within, within-finite, wider}
 use Rattle.floats.specs.NoNan.{above-no-nan}
 use Rattle.floats.specs.Order.{or-eq, or-eq'}
+use Rattle.tables.specs.Tables.{pitchGain, logGain, gainBias}
 use Rattle.floats.specs.Quantised.{quantise-le}
 use Rattle.gain.specs.declared.CodeGainArgument.{CodeGainArgument}
 use Rattle.gain.specs.declared.CodeGainArgument.the-variants as Argument
 use Rattle.gain.specs.Elementary.{bits, add, ln, exp, scaled}
-use Rattle.gain.specs.Gain.{atLeastOne, weighted, prediction, argument, codeGain, step}
+use Rattle.gain.specs.Gain.{atLeastOne, weighted, prediction, argument, codeGain, step, energy, decode}
 use Rattle.gain.specs.Sized.{Sized, whole, pattern, small, plus, minus, times}
 
 -- ---- the two routines
@@ -148,3 +149,7 @@ code-gain-le (Argument.Within x) = quantise-le 32767 (exp x)
 pub step-gains : (v : List Float) (e pitch correction bias : Float) → Gain (step v e pitch correction bias .pitch) × Gain (step v e pitch correction bias .code)
 unfolding step
 step-gains v e pitch correction bias = ((quantise 32767 pitch, quantise-le 32767 pitch, refl), (codeGain (argument (add (prediction v e bias) correction)), code-gain-le (argument (add (prediction v e bias) correction)), refl))
+
+pub decode-gains : (bytes : List ℕ) (v : List Float) (index : ℕ) (code : List ℤ) → Gain (decode bytes v index code .pitch) × Gain (decode bytes v index code .code)
+unfolding decode
+decode-gains bytes v index code = step-gains v (energy code) (pitchGain bytes index) (logGain bytes index) (gainBias bytes)
