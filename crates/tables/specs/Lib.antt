@@ -1,2 +1,5 @@
 pub mod Places
 pub mod Tables
+pub mod Rules
+pub mod Sound
+pub mod Bare
