@@ -32,11 +32,11 @@ ln x =
     let f = sub (bits (i % 0x80_0000 + 0x3f2a_aaab)) (bits 0x3f80_0000) in
     let d = sub (ofInt binary32 (pos (i / 0x80_0000))) (bits 0x42fe_0000) in
     let z = mul f f in
-    let p0 = sub (bits 0x3eaa_aa83) (mul (bits 0x3e7f_ff78) f) in
-    let p2 = sub (bits 0x3e4c_e81a) (mul (bits 0x3e2a_cee7) f) in
-    let p4 = sub (bits 0x3e0f_6b90) (mul (bits 0x3df9_88af) f) in
-    let p6 = sub (bits 0x3e0f_3373) (mul (bits 0x3e04_02bc) f) in
-    let p = add p0 (mul z (add p2 (mul z (add p4 (mul z p6))))) in
+    let a0 = sub (bits 0x3eaa_aa83) (mul (bits 0x3e7f_ff78) f) in
+    let a2 = sub (bits 0x3e4c_e81a) (mul (bits 0x3e2a_cee7) f) in
+    let a4 = sub (bits 0x3e0f_6b90) (mul (bits 0x3df9_88af) f) in
+    let a6 = sub (bits 0x3e0f_3373) (mul (bits 0x3e04_02bc) f) in
+    let p = add a0 (mul z (add a2 (mul z (add a4 (mul z a6))))) in
     add (add (sub (sub (mul (mul f z) p) (mul d (bits 0x37f4_0417))) (mul (bits 0x3f00_0000) z)) f) (mul d (bits 0x3f31_7400))
 
 -- a float whose last six binary digits are 32 + k, k being the whole number nearest to x / ln 2
@@ -53,9 +53,9 @@ exp x =
     let c = mul k (bits 0x37f4_0417) in
     let r = add g c in
     let z = mul r r in
-    let q0 = add (mul (bits 0x3e2a_aa49) r) (bits 0x3eff_fffe) in
-    let q2 = add (mul (bits 0x3c09_1ce7) r) (bits 0x3d2a_ac69) in
-    let q = add (mul (add (mul (bits 0x3ab5_1220) z) q2) z) q0 in
+    let b0 = add (mul (bits 0x3e2a_aa49) r) (bits 0x3eff_fffe) in
+    let b2 = add (mul (bits 0x3c09_1ce7) r) (bits 0x3d2a_ac69) in
+    let q = add (mul (add (mul (bits 0x3ab5_1220) z) b2) z) b0 in
     mul (add (add (add (mul z q) c) g) (bits 0x3f80_0000)) (bits ((n + 95) * 0x80_0000))
 
 -- ln 1 is +0 exactly; ln 80 and e ^ 10.5 are 4.3820267 and 36315.504

@@ -5,7 +5,7 @@ use Prim.Native.Nat.{ℕ, _+_, _*_}
 use mathlib.Core.Bool.{cond}
 use lib.IntN.{ℤ, pos, negsuc, natAbs}
 use lib.ListN.{getD, replicate}
-use lib.Ieee.{Float, nan, binary32, le, ofBits, ofInt}
+use lib.Ieee.{Float, nan, binary32, le, ofBits, toBits, ofInt}
 use lib.Ieee as Ieee
 use Rattle.sequence.specs.Total.{total}
 use Rattle.floats.specs.Floats.{quantise}
@@ -15,6 +15,7 @@ use Rattle.gain.specs.declared.CodeGainArgument.the-variants.{Below, Abo
 use Rattle.gain.specs.declared.Decoded.{Decoded}
 use Rattle.gain.specs.Elementary.{bits, add, sub, mul, div, ln, exp}
 
+-- z * z, as a natural number
 unfoldable pub square : ℤ → ℕ
 square z = natAbs z * natAbs z
 
@@ -44,7 +45,8 @@ unfolding weighted ln atLeastOne
 prediction history e bias = add (sub (weighted history) (mul (bits 0x3f00_0000) (ln (atLeastOne e)))) bias
 
 -- The argument of the code gain's exponential: under -1, over 10.5, or within the two and carried.
--- The Rust takes the exponential of every argument. Below -1 its gain is 0 too (e ^ x is under 0.37), and above 10.5 it is 32,767 too (e ^ x is over 36,315).
+-- The Rust takes the exponential of every argument. The sorting, which document 01 asks for, changes no gain: below -1 e ^ x is under 0.37 and rounds to 0,
+-- above 10.5 it is over 36,315 and is brought to 32,767.
 unfoldable pub argument : Float → CodeGainArgument
 argument x = cond (le (bits 0xbf80_0000) x) (cond (le x (bits 0x4128_0000)) (Within x) Above) Below
 
@@ -93,3 +95,8 @@ energies = (refl, refl)
 ends : (argument (bits 0xbf80_0000) ≡ Within (bits 0xbf80_0000)) × (argument (bits 0xbf80_0001) ≡ Below) × (argument (bits 0x4128_0000) ≡ Within (bits 0x4128_0000)) × (argument (bits 0x4128_0001) ≡ Above)
 unfolding argument ofBits le
 ends = (refl, refl, refl, refl)
+
+-- from a history of zeros, with no energy: the gain is e ^ 0, and the correction comes in at the front
+first : step (replicate 4 (bits 0)) (bits 0) (bits 0x4680_0100) (bits 0) (bits 0) ≡ record { pitch = pos 16384; code = pos 1; history = replicate 4 (bits 0) }
+unfolding step Ieee.add Ieee.sub Ieee.mul le ofBits toBits ofInt
+first = refl

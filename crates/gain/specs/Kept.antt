@@ -1,16 +1,15 @@
 -- Over the bytes of an accepted set: a history that obeys the state rule is followed by one that does, the one at reset does, and no figure is a NaN.
-use mathlib.Core.Path.{_≡_, refl, sym, subst}
+use mathlib.Core.Path.{refl}
 use mathlib.Core.List.{List}
-use Prim.Native.Nat.{ℕ, zero, suc, _+_, _*_, _<_, _≤_}
+use Prim.Native.Nat.{ℕ, zero, suc, _*_, _<_, _≤_}
 use native.Mathlib.Nat.{le-refl, zero-lt-suc}
 use native.Mathlib.Omega.{arith}
-use mathlib.Core.Bool.{Bool, false, not}
-use lib.IntN.{ℤ, pos}
+use mathlib.Core.Bool.{false, not}
+use lib.IntN.{ℤ}
 use lib.Dec.{T, lit≤}
 use lib.ListN.{getD}
 use lib.Ieee.{Float, nan, inf, fin, binary32, up, down, unlike, ofBits, ofInt, isNan}
 use lib.Ieee as Ieee
-use lib.Ieee.Exact.{HasValue}
 use lib.Ieee.Scale.{finite}
 use Rattle.sequence.specs.Total.{total}
 use Rattle.floats.specs.Floats.{within}

@@ -32,11 +32,11 @@ ln-within x =
     let f = minus 2 tt (pattern 0 (i % 0x80_0000 + 0x3f2a_aaab) tt (omega arith)) (small 0x3f80_0000 tt) in
     let d = minus 9 tt (whole 8 (i / 0x80_0000) tt (omega arith)) (pattern 6 0x42fe_0000 tt (lit< tt)) in
     let z = times 4 tt f f in
-    let p0 = minus 4 tt (small 0x3eaa_aa83 tt) (times 3 tt (small 0x3e7f_ff78 tt) f) in
-    let p2 = minus 4 tt (small 0x3e4c_e81a tt) (times 3 tt (small 0x3e2a_cee7 tt) f) in
-    let p4 = minus 4 tt (small 0x3e0f_6b90 tt) (times 3 tt (small 0x3df9_88af tt) f) in
-    let p6 = minus 4 tt (small 0x3e0f_3373 tt) (times 3 tt (small 0x3e04_02bc tt) f) in
-    let p = plus 19 tt p0 (times 18 tt z (plus 14 tt p2 (times 13 tt z (plus 9 tt p4 (times 8 tt z p6))))) in
+    let a0 = minus 4 tt (small 0x3eaa_aa83 tt) (times 3 tt (small 0x3e7f_ff78 tt) f) in
+    let a2 = minus 4 tt (small 0x3e4c_e81a tt) (times 3 tt (small 0x3e2a_cee7 tt) f) in
+    let a4 = minus 4 tt (small 0x3e0f_6b90 tt) (times 3 tt (small 0x3df9_88af tt) f) in
+    let a6 = minus 4 tt (small 0x3e0f_3373 tt) (times 3 tt (small 0x3e04_02bc tt) f) in
+    let p = plus 19 tt a0 (times 18 tt z (plus 14 tt a2 (times 13 tt z (plus 9 tt a4 (times 8 tt z a6))))) in
     let r = plus 29 tt (plus 28 tt (minus 27 tt (minus 26 tt (times 25 tt (times 6 tt f z) p) (times 10 tt d (small 0x37f4_0417 tt))) (times 5 tt (small 0x3f00_0000 tt) z)) f)
     (times 10 tt d (small 0x3f31_7400 tt)) in
     r .bound
@@ -51,9 +51,9 @@ exp-within x h =
     let c = times 8 tt k (small 0x37f4_0417 tt) in
     let r = plus 10 tt g c in
     let z = times 20 tt r r in
-    let q0 = plus 12 tt (times 11 tt (small 0x3e2a_aa49 tt) r) (small 0x3eff_fffe tt) in
-    let q2 = plus 12 tt (times 11 tt (small 0x3c09_1ce7 tt) r) (small 0x3d2a_ac69 tt) in
-    let q = plus 43 tt (times 42 tt (plus 22 tt (times 21 tt (small 0x3ab5_1220 tt) z) q2) z) q0 in
+    let b0 = plus 12 tt (times 11 tt (small 0x3e2a_aa49 tt) r) (small 0x3eff_fffe tt) in
+    let b2 = plus 12 tt (times 11 tt (small 0x3c09_1ce7 tt) r) (small 0x3d2a_ac69 tt) in
+    let q = plus 43 tt (times 42 tt (plus 22 tt (times 21 tt (small 0x3ab5_1220 tt) z) b2) z) b0 in
     let w = pattern 31 ((n + 95) * 0x80_0000) tt (omega arith) in
     let y = times 98 tt (plus 66 tt (plus 65 tt (plus 64 tt (times 63 tt z q) c) g) (small 0x3f80_0000 tt)) w in
     y .bound
@@ -137,8 +137,8 @@ module _ (v : List Float) (b : Bounded v) where
   step-bounded e pitch correction bias q (suc (suc (suc (suc k)))) h = absurd (omega arith)
 
 -- ---- the gains lie in 0..=32,767
-abbrev pub Gain : ℤ → Type 0
-Gain z = (n : ℕ) × (n ≤ 32767) × (z ≡ pos n)
+abbrev pub InRange : ℤ → Type 0
+InRange z = (n : ℕ) × (n ≤ 32767) × (z ≡ pos n)
 
 code-gain-le : (a : CodeGainArgument) → codeGain a ≤ 32767
 unfolding codeGain
@@ -146,10 +146,10 @@ code-gain-le Argument.Below = lit≤ tt
 code-gain-le Argument.Above = le-refl 32767
 code-gain-le (Argument.Within x) = quantise-le 32767 (exp x)
 
-pub step-gains : (v : List Float) (e pitch correction bias : Float) → Gain (step v e pitch correction bias .pitch) × Gain (step v e pitch correction bias .code)
+pub step-gains : (v : List Float) (e pitch correction bias : Float) → InRange (step v e pitch correction bias .pitch) × InRange (step v e pitch correction bias .code)
 unfolding step
 step-gains v e pitch correction bias = ((quantise 32767 pitch, quantise-le 32767 pitch, refl), (codeGain (argument (add (prediction v e bias) correction)), code-gain-le (argument (add (prediction v e bias) correction)), refl))
 
-pub decode-gains : (bytes : List ℕ) (v : List Float) (index : ℕ) (code : List ℤ) → Gain (decode bytes v index code .pitch) × Gain (decode bytes v index code .code)
+pub decode-gains : (bytes : List ℕ) (v : List Float) (index : ℕ) (code : List ℤ) → InRange (decode bytes v index code .pitch) × InRange (decode bytes v index code .code)
 unfolding decode
 decode-gains bytes v index code = step-gains v (energy code) (pitchGain bytes index) (logGain bytes index) (gainBias bytes)

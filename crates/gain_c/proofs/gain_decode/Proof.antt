@@ -1,6 +1,6 @@
 -- The parts of `decode`'s answer; a gain fits 16 bits, so the machine reads it as it is.
 use mathlib.Core.Path.{_≡_, ap, subst, _∙_, sym}
-use Prim.Native.Nat.{ℕ, _<_}
+use Prim.Native.Nat.{_<_}
 use native.Mathlib.Omega.{arith}
 use borrow.Author.Needs.{needs, sfits-of}
 use lib.IntN.{ℤ}
@@ -11,11 +11,11 @@ use mir.ValLaws.{toZ-ofZ}
 use denote.Ref.{now}
 use Rattle.gain.specs.declared.Decoded.{Decoded}
 use Rattle.gain.specs.Gain.{decode}
-use Rattle.gain.specs.Ranges.{Gain, decode-gains}
+use Rattle.gain.specs.Ranges.{InRange, decode-gains}
 use Rattle.gain_c.proofs.gain_decode.Statement.{statement}
 use Rattle.gain_c.proofs.gain_decode.Tie as tie
 
-read : (z y : ℤ) → z ≡ y → Gain y → toZ w16 (ofZ w16 z) ≡ y
+read : (z y : ℤ) → z ≡ y → InRange y → toZ w16 (ofZ w16 z) ≡ y
 read z y e g =
     let h : mag z < 32768 = subst (λ (w : ℤ). mag w < 32768) (sym (e ∙ g .2)) (let l = g .1 in omega arith) in
     toZ-ofZ w16 z (sfits-of h) ∙ e
