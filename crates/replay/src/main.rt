@@ -1,5 +1,6 @@
 // Replays questions that were put to the Rust: a line of numbers in, the answer's numbers out.
 // The first number of a line names the module. The stored output is the Rust's own.
+mod of_bits;
 mod of_fixed;
 mod of_synth;
 
@@ -107,8 +108,7 @@ fn say_number(x: i64) {
     io::print_decimal(STDOUT_FILENO, size(x));
 }
 
-// The numbers, as a line.
-fn say(numbers: &[i64]) {
+fn say_numbers(numbers: &[i64]) {
     let mut i = 0;
     while i < numbers.len() {
         if 0 < i {
@@ -117,7 +117,12 @@ fn say(numbers: &[i64]) {
         say_number(numbers[i]);
         i += 1;
     }
-    io::write_all(STDOUT_FILENO, b"\n");
+}
+
+// The numbers, as a line.
+fn say(numbers: &[i64]) {
+    say_numbers(numbers);
+    end_line();
 }
 
 // The words of n from a place on, as many as out has room for.
@@ -154,13 +159,14 @@ fn end_line() {
     io::write_all(STDOUT_FILENO, b"\n");
 }
 
-// 0 fixed, 1 synth
+// 0 fixed, 1 synth, 2 bits
 fn answer(q: Question) {
     let n = q.numbers;
     let count = q.count;
     match n[0] {
         0 => of_fixed::answer(n),
         1 => of_synth::answer(n, count),
+        2 => of_bits::answer(n),
         _ => say(&[]),
     }
 }

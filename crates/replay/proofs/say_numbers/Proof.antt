@@ -1,14 +1,14 @@
 use Prim.Native.Nat.{_≤_, _<_, _-_}
 use lib.ListN.{length}
 use borrow.Author.Needs.{needs}
-use Rattle.replay.proofs.say.Statement.{statement}
-use Rattle.replay.proofs.say.Tie as tie
+use Rattle.replay.proofs.say_numbers.Statement.{statement}
+use Rattle.replay.proofs.say_numbers.Tie as tie
 
 abbrev Inv-loop : tie.InvT-loop
-Inv-loop numbers i₀ t3 t4 i = i ≤ length numbers
+Inv-loop numbers i₀ t3 i = i ≤ length numbers
 
 abbrev μ-loop : tie.MeasureT-loop
-μ-loop numbers i₀ t3 t4 i = length numbers - i
+μ-loop numbers i₀ t3 i = length numbers - i
 
 loop-holds : tie.Need-loop-holds Inv-loop μ-loop
 loop-holds c = search needs
@@ -37,17 +37,11 @@ loop-less c = search needs
 loop-again : tie.Need-loop-again Inv-loop μ-loop
 loop-again c = search needs
 
-slice-aggregate-write-all-2 : tie.Need-slice-aggregate-write-all-2 Inv-loop μ-loop
-slice-aggregate-write-all-2 c = search needs
-
-write-all-requires-2 : tie.Need-write-all-requires-2 Inv-loop μ-loop
-write-all-requires-2 c κs = search needs
-
 returns : tie.Need-returns Inv-loop μ-loop
 returns c = search needs
 
-pub say-spec : {M : Type 1} → statement M
-say-spec =
+pub say-numbers-spec : {M : Type 1} → statement M
+say-numbers-spec =
     tie.close
     (tie.spec
     Inv-loop
@@ -61,6 +55,4 @@ say-spec =
     add-i
     loop-less
     loop-again
-    slice-aggregate-write-all-2
-    write-all-requires-2
     returns)

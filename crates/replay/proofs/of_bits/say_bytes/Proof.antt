@@ -1,0 +1,58 @@
+use Prim.Native.Nat.{_≤_, _<_, _-_}
+use lib.ListN.{length}
+use borrow.Author.Needs.{needs}
+use Rattle.replay.proofs.of_bits.say_bytes.Statement.{statement}
+use Rattle.replay.proofs.of_bits.say_bytes.Tie as tie
+
+abbrev Inv-loop : tie.InvT-loop
+Inv-loop b i₀ t3 i = i ≤ length b
+
+abbrev μ-loop : tie.MeasureT-loop
+μ-loop b i₀ t3 i = length b - i
+
+loop-holds : tie.Need-loop-holds Inv-loop μ-loop
+loop-holds c = search needs
+
+slice-aggregate-write-all : tie.Need-slice-aggregate-write-all Inv-loop μ-loop
+slice-aggregate-write-all c = search needs
+
+write-all-requires : tie.Need-write-all-requires Inv-loop μ-loop
+write-all-requires c κs = search needs
+
+shared-slice-read-count : tie.Need-shared-slice-read-count Inv-loop μ-loop
+shared-slice-read-count c = search needs
+
+count-requires : tie.Need-count-requires Inv-loop μ-loop
+count-requires c κs = search needs
+
+print-decimal-requires : tie.Need-print-decimal-requires Inv-loop μ-loop
+print-decimal-requires c κs = search needs
+
+add-i : tie.Need-add-i Inv-loop μ-loop
+add-i c = search needs
+
+loop-less : tie.Need-loop-less Inv-loop μ-loop
+loop-less c = search needs
+
+loop-again : tie.Need-loop-again Inv-loop μ-loop
+loop-again c = search needs
+
+returns : tie.Need-returns Inv-loop μ-loop
+returns c = search needs
+
+pub say-bytes-spec : {M : Type 1} → statement M
+say-bytes-spec =
+    tie.close
+    (tie.spec
+    Inv-loop
+    μ-loop
+    loop-holds
+    slice-aggregate-write-all
+    write-all-requires
+    shared-slice-read-count
+    count-requires
+    print-decimal-requires
+    add-i
+    loop-less
+    loop-again
+    returns)
