@@ -3,5 +3,6 @@ pub mod Value
 pub mod Within
 pub mod NoNan
 pub mod Order
+pub mod Patterns
 pub mod Quantised
 pub mod Cases
