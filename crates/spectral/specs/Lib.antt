@@ -1,1 +1,2 @@
 pub mod Spectral
+pub mod Cases
