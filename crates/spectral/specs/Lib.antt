@@ -1,2 +1,4 @@
 pub mod Spectral
+pub mod Lists
+pub mod Sorted
 pub mod Cases
