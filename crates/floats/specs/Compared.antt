@@ -72,13 +72,13 @@ module _ (x p y q a b c : ℕ) (P : 0 < p) (Q : 0 < q) (C : 0 < c) (v : x * c �
           never (eqb (x * q) (y * p)) (eqb (x * q) 0) (eqb-true (x * q) (y * p)) (eqb-true (x * q) 0) (λ e f. let i = left-zero e in let j = right-zero f in omega arith)
 
 -- ---- the signs
-neg-neg : (a b : ℕ) → leb b a ≡ leZ (negℤ (pos a)) (negℤ (pos b))
+pub neg-neg : (a b : ℕ) → leb b a ≡ leZ (negℤ (pos a)) (negℤ (pos b))
 neg-neg zero zero = refl
 neg-neg zero (suc b) = leb·suc-zero b
 neg-neg (suc a) zero = leb·zero (suc a)
 neg-neg (suc a) (suc b) = leb·suc-suc b a
 
-neg-pos : (a b : ℕ) → true ≡ leZ (negℤ (pos a)) (pos b)
+pub neg-pos : (a b : ℕ) → true ≡ leZ (negℤ (pos a)) (pos b)
 neg-pos zero b = sym (leb·zero b)
 neg-pos (suc a) b = refl
 

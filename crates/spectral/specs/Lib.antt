@@ -1,4 +1,6 @@
 pub mod Spectral
 pub mod Lists
 pub mod Sorted
+pub mod Above
+pub mod TotalCmp
 pub mod Cases
