@@ -1,10 +1,10 @@
 -- What the tables of the rules' counts, starts and strides say of any rule.
-use Prim.Native.Nat.{ℕ, zero, suc, _+_, _*_, _<_, _≤_}
-use mathlib.Core.Path.{_≡_, refl, sym, ap, subst}
+use Prim.Native.Nat.{ℕ, zero, suc, _*_, _<_, _≤_}
+use mathlib.Core.Path.{_≡_, refl}
 use mathlib.Core.List.{List, [], _∷_}
-use mathlib.Core.Bool.{Bool, true, false, _&&_, cond}
+use mathlib.Core.Bool.{Bool, true, false, cond}
 use native.Mathlib.Omega.{arith}
-use native.Mathlib.Nat.{mul-le-mul, le-of-lt, not-suc-le-zero}
+use native.Mathlib.Nat.{mul-le-mul, not-suc-le-zero}
 use lib.Dec.{leb, ltb}
 use lib.ListN.{getD}
 use lib.IntN.{ℤ}

@@ -2,9 +2,9 @@
 use Prim.Native.Nat.{ℕ, _+_, _-_, _*_}
 use mathlib.Core.Path.{_≡_, refl}
 use mathlib.Core.List.{List, [], _∷_}
-use mathlib.Core.Bool.{Bool, true, false, _&&_, _||_, not, cond}
+use mathlib.Core.Bool.{Bool, false, _&&_, not, cond}
 use lib.ListN.{length, getD}
-use lib.Dec.{eqb, leb, ltb}
+use lib.Dec.{eqb, ltb}
 use lib.IntN.{ℤ, pos, negsuc}
 use lib.Signed.{leZ, ltZ}
 use lib.Ieee.{Float}
@@ -22,6 +22,9 @@ word words at = getD words at (pos 0)
 abbrev pub unsigned : ℤ → ℕ
 unsigned (pos n) = n
 unsigned (negsuc n) = 65535 - n
+
+all-ones : unsigned (negsuc 0) ≡ 65535
+all-ones = refl
 
 abbrev pub unsignedWord : List ℤ → ℕ → ℕ
 unsignedWord words at = unsigned (word words at)
@@ -115,6 +118,11 @@ bad words bytes r k =
 unfoldable pub place : ℕ → ℕ → ℕ
 place r k =
     getD (0 ∷ FCB-INDEX-LIMIT ∷ FCB-PULSES ∷ FCB-SHAPE-SEL ∷ FCB-POSITIONS ∷ FCB-ALT-A ∷ PITCH-GAIN ∷ []) r 0 + getD (0 ∷ 1 ∷ 1 ∷ 3 ∷ 1 ∷ 1 ∷ 4 ∷ []) r 0 * k
+
+-- the last of rules 1, 3, 5 and 6
+last-places : (place 1 6 ≡ 192) × (place 3 4 ≡ 210) × (place 5 3199 ≡ 4682) × (place 6 976 ≡ 3904)
+unfolding place
+last-places = (refl, refl, refl, refl)
 
 -- whether a rule is broken at one of its places
 unfoldable pub broken : List ℤ → List ℕ → ℕ → Bool

@@ -1,6 +1,5 @@
 -- A rule that is broken is one of the seven; where the first five are not, it is for the sixth to say.
-use mathlib.Core.Path.{_≡_, refl, sym, _∙_}
-use mathlib.Core.Bool.{Bool, true, false}
+use mathlib.Core.Path.{refl, sym, _∙_}
 use lib.Dec.{lit<}
 use denote.Ref.{now}
 use Rattle.sequence.specs.First.{some-none, some-of}

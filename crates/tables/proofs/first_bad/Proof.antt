@@ -1,7 +1,7 @@
 -- The loop looks through the places below n, which is the count of the rule.
 use Prim.Native.Nat.{_≤_, _-_}
 use native.Mathlib.Nat.{sub-zero}
-use mathlib.Core.Path.{_≡_, refl, sym, _∙_}
+use mathlib.Core.Path.{_≡_, sym, _∙_}
 use Rattle.sequence.specs.First.{first, firstFrom, first-more, first-found, first-none}
 use Rattle.tables.specs.Tables as Tables
 use borrow.Author.Needs.{needs}

@@ -1,6 +1,6 @@
 -- The loop looks through the rules from 1 on: rule 0 has no place, and is not broken.
 use Prim.Native.Nat.{_≤_, _-_}
-use mathlib.Core.Path.{_≡_, sym, _∙_}
+use mathlib.Core.Path.{_≡_, _∙_}
 use Rattle.sequence.specs.First.{first, firstFrom, first-more, first-found, first-none}
 use Rattle.tables.specs.Tables as Tables
 use Rattle.tables.proofs.Rules.{from-one, broken-no, broken-yes, told, nothing-told}

@@ -28,7 +28,7 @@ loop-less : tie.Need-loop-less Inv-loop μ-loop
 loop-less c = search needs
 
 loop-again : tie.Need-loop-again Inv-loop μ-loop
-loop-again c = let at = c .before .before .before .loop in looked-more _ 600 (at .k) (at .inv) (c .before .before .loop-test .taken) (c .before .position-bad .ensures) (c .either .ensures)
+loop-again c = let at = c .before .before .before .loop in looked-more _ 600 (at .k) (at .inv) (search needs) (c .before .position-bad .ensures) (c .either .ensures)
 
 returns : tie.Need-returns Inv-loop μ-loop
 returns c = let at = c .before .loop in looked-end _ 600 (at .k) (at .inv) (c .loop-test .left)
