@@ -26,10 +26,10 @@ unfolding spread table toUnsigned ofBits add le
 ceiling-last = refl
 
 -- 3, -1, 2 sorted; of equal ones the first stays first
-sorted-three : sort (map (λ (n : ℕ). ofBits binary32 n) (0x4040_0000 ∷ 0xbf80_0000 ∷ 0x4000_0000 ∷ [])) ≡ map (λ (n : ℕ). ofBits binary32 n) (0xbf80_0000 ∷ 0x4000_0000 ∷ 0x4040_0000 ∷ [])
+sorted-three : sort lt (map (λ (n : ℕ). ofBits binary32 n) (0x4040_0000 ∷ 0xbf80_0000 ∷ 0x4000_0000 ∷ [])) ≡ map (λ (n : ℕ). ofBits binary32 n) (0xbf80_0000 ∷ 0x4000_0000 ∷ 0x4040_0000 ∷ [])
 unfolding sort ofBits lt
 sorted-three = refl
 
-zeros-stay : sort (map (λ (n : ℕ). ofBits binary32 n) (0 ∷ 0x8000_0000 ∷ [])) ≡ map (λ (n : ℕ). ofBits binary32 n) (0 ∷ 0x8000_0000 ∷ [])
+zeros-stay : sort lt (map (λ (n : ℕ). ofBits binary32 n) (0 ∷ 0x8000_0000 ∷ [])) ≡ map (λ (n : ℕ). ofBits binary32 n) (0 ∷ 0x8000_0000 ∷ [])
 unfolding sort ofBits lt
 zeros-stay = refl

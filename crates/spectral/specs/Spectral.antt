@@ -1,7 +1,7 @@
 -- spectral.rs: the residual, the prediction and its spacing, the history, the quantised frequencies. A history is flat: the newest residual first, ten floats each.
 use Prim.Native.Nat.{ℕ, zero, suc, _+_, _-_, _*_, _%_, max}
 use mathlib.Core.List.{List, [], _∷_, _++_}
-use mathlib.Core.Bool.{cond}
+use mathlib.Core.Bool.{Bool, cond}
 use lib.IntN.{ℤ, pos}
 use lib.Dec.{ltb}
 use lib.ListN.{getD, take, set}
@@ -46,16 +46,17 @@ unfolding sumAt
 sums history residual bytes mode = table (sumAt history residual bytes mode) 10
 
 -- ---- the order
--- x before the first that is not smaller
-unfoldable pub insert : Float → List Float → List Float
-insert x [] = x ∷ []
-insert x (y ∷ ys) = cond (lt y x) (y ∷ insert x ys) (x ∷ y ∷ ys)
+module _ {A : Type 0} (less : A → A → Bool) where
+  -- x before the first that is not less
+  unfoldable pub insert : A → List A → List A
+  insert x [] = x ∷ []
+  insert x (y ∷ ys) = cond (less y x) (y ∷ insert x ys) (x ∷ y ∷ ys)
 
--- by insertion
-unfoldable pub sort : List Float → List Float
-unfolding insert
-sort [] = []
-sort (x ∷ xs) = insert x (sort xs)
+  -- by insertion
+  unfoldable pub sort : List A → List A
+  unfolding insert
+  sort [] = []
+  sort (x ∷ xs) = insert x (sort xs)
 
 -- ---- the spacing
 -- Rust's a.max(b) and a.min(b), for a b that is no NaN
@@ -88,7 +89,7 @@ spread l = set (table (spacedAt l) 10) 9 (smaller (spacedAt l 9) CEILING)
 -- ---- the prediction
 unfoldable pub predict : List Float → List Float → List ℕ → ℕ → List Float
 unfolding sums sort spread
-predict history residual bytes mode = spread (sort (sums history residual bytes mode))
+predict history residual bytes mode = spread (sort lt (sums history residual bytes mode))
 
 -- ---- the history
 unfoldable pub push : List Float → List Float → List Float

@@ -5,12 +5,12 @@ use mathlib.Core.Logic.{_⊎_, inl, inr}
 use Prim.Native.Nat.{ℕ, zero, suc, _+_, _*_, _≤_, _<_}
 use native.Mathlib.Nat.{le-of-lt, le-of-eq, eq-or-lt-of-le, zero-lt-suc}
 use native.Mathlib.Omega.{arith}
-use mathlib.Core.Bool.{Bool, true, false, cond, _&&_, false≢true}
+use mathlib.Core.Bool.{Bool, true, false, cond, _&&_, true≢false, false≢true}
 use lib.IntN.{ℤ, pos, negsuc}
 use lib.Dec.{T, leb}
 use lib.ListN.{getD, set}
-use lib.Signed.{leZ}
-use borrow.Author.Tests.{le-leb, lt-leb, leb-true}
+use lib.Signed.{leZ, ltZ}
+use borrow.Author.Tests.{le-leb, leb-true, ltb-true, ltb-false}
 use lib.Ieee.{Float, nan, inf, fin, binary32, fits, le, lt, eq, add}
 use lib.Ieee.Fits.{and-l, and-r}
 use lib.Ieee.Scale.{finite}
@@ -18,6 +18,7 @@ use lib.Ieee.Positive.{above}
 use Rattle.floats.specs.Compared.{signed, neg-neg, neg-pos}
 use Rattle.floats.specs.Patterns.{unitsOf, units-up}
 use Rattle.floats.specs.Numbers.{negative, pattern, numberOf, Finite32, Zero, le-number, same-number}
+use Rattle.floats.specs.Order.{not-below, below-le}
 use Rattle.sequence.specs.Table.{table, table-same}
 use Rattle.spectral.specs.Spectral.{sort, larger, smaller, spacedAt, spread, FLOOR, GAP, CEILING}
 use Rattle.spectral.specs.Above.{floor-above, larger-above, above-zero, gap-above}
@@ -30,6 +31,9 @@ totalKey x = cond (negative x) (negsuc (pattern x)) (pos (pattern x))
 
 abbrev pub totalLe : Float → Float → Bool
 totalLe x y = leZ (totalKey x) (totalKey y)
+
+abbrev pub totalLess : Float → Float → Bool
+totalLess x y = ltZ (totalKey x) (totalKey y)
 
 -- an f32 that is neither a NaN nor an infinity
 abbrev pub finite32 : Float → Bool
@@ -63,14 +67,14 @@ by-le [] h r = tt
 by-le (x ∷ []) h r = tt
 by-le (x ∷ (y ∷ l)) h r = (sym (le-number x y (both x (h .0)) (both y (h .1 .0))) ∙ r .0, by-le (y ∷ l) (h .1) (r .1))
 
-finite-each : (l : List Float) → Each finite32 l → Each finite l
-finite-each [] h = tt
-finite-each (x ∷ l) h = (both x (h .0) .1, finite-each l (h .1))
+-- `sort lt` gives what rises
+pub sort-le : (l : List Float) → Each finite32 l → Rising le (sort lt l)
+sort-le = sort-rises lt finite32 le below-le (λ x y p q h. not-below x y (both x p .1) (both y q .1) h)
 
-same-numbers : (l s : List Float) → Each finite32 l → Same s l → Rising totalLe s → map numberOf s ≡ map numberOf (sort l)
+same-numbers : (l s : List Float) → Each finite32 l → Same s l → Rising totalLe s → map numberOf s ≡ map numberOf (sort lt l)
 same-numbers l s h k r =
-    settled (map numberOf s) (map numberOf (sort l)) (by-total s r) (by-le (sort l) (sort-each finite32 l h) (sort-rises l (finite-each l h)))
-    (λ f. tally-map numberOf f s ∙ k (λ x. f (numberOf x)) ∙ sym (sort-same l (λ x. f (numberOf x))) ∙ sym (tally-map numberOf f (sort l)))
+    settled (map numberOf s) (map numberOf (sort lt l)) (by-total s r) (by-le (sort lt l) (sort-each lt finite32 l h) (sort-le l h))
+    (λ f. tally-map numberOf f s ∙ k (λ x. f (numberOf x)) ∙ sym (sort-same lt l (λ x. f (numberOf x))) ∙ sym (tally-map numberOf f (sort lt l)))
 
 -- ---- so place by place they are equal, or the two zeros
 abbrev Alike : Float → Float → Type 0
@@ -103,6 +107,28 @@ spread-same k l h =
     ap (λ (z : Float). set (table (spacedAt k) 10) 9 (smaller z CEILING)) (spaced-same k l h 9 .0)
     ∙ ap (λ (t : List Float). set t 9 (smaller (spacedAt l 9) CEILING)) (table-same (spacedAt k) (spacedAt l) 10 (λ i p. spaced-same k l h i .0))
 
--- whatever holds l's floats, each as often, and rises by total_cmp is spread to what `sort l` is
-pub total-sort : (l s : List Float) → Each finite32 l → Same s l → Rising totalLe s → spread s ≡ spread (sort l)
-total-sort l s h k r = spread-same s (sort l) (alike-at s (sort l) (each-same finite32 s l k h) (sort-each finite32 l h) (same-numbers l s h k r))
+-- whatever holds l's floats, each as often, and rises by total_cmp is spread to what `sort lt l` is
+pub any-sort : (l s : List Float) → Each finite32 l → Same s l → Rising totalLe s → spread s ≡ spread (sort lt l)
+any-sort l s h k r = spread-same s (sort lt l) (alike-at s (sort lt l) (each-same finite32 s l k h) (sort-each lt finite32 l h) (same-numbers l s h k r))
+
+-- ---- as here by insertion
+total-yes : (x y : Float) → totalLess x y ≡ true → totalLe x y ≡ true
+total-yes x y = go (totalKey x) (totalKey y)
+  where
+    go : (a b : ℤ) → ltZ a b ≡ true → leZ a b ≡ true
+    go (pos a) (pos b) h = le-leb a b (le-of-lt (ltb-true a b h))
+    go (pos a) (negsuc b) h = h
+    go (negsuc a) (pos b) h = h
+    go (negsuc a) (negsuc b) h = le-leb b a (le-of-lt (ltb-true b a h))
+
+total-no : (x y : Float) → totalLess x y ≡ false → totalLe y x ≡ true
+total-no x y = go (totalKey x) (totalKey y)
+  where
+    go : (a b : ℤ) → ltZ a b ≡ false → leZ b a ≡ true
+    go (pos a) (pos b) h = le-leb b a (ltb-false a b h)
+    go (pos a) (negsuc b) h = refl
+    go (negsuc a) (pos b) h = absurd (true≢false h)
+    go (negsuc a) (negsuc b) h = le-leb a b (ltb-false b a h)
+
+pub total-sort : (l : List Float) → Each finite32 l → spread (sort totalLess l) ≡ spread (sort lt l)
+total-sort l h = any-sort l (sort totalLess l) h (sort-same totalLess l) (sort-rises totalLess finite32 totalLe total-yes (λ x y p q k. total-no x y k) l h)

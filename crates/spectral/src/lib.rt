@@ -6,7 +6,7 @@ ghost use mathlib.Core.Bool.{cond};
 ghost use lib.Dec.{ltb};
 ghost use lib.Signed.{leZ};
 ghost use lib.ListN.{length, getD, take, drop};
-ghost use lib.Ieee.{nan};
+ghost use lib.Ieee.{nan, lt};
 ghost use Rattle.tables.specs.Tables as Tables;
 ghost use Rattle.spectral.specs.Spectral as Spectral;
 
@@ -93,7 +93,7 @@ fn sums(history: &[f32; 30], residual: &[f32; 10], bytes: &[u8], mode: usize) ->
 // Puts a[n] into its place among those after it: each smaller one moves one place down.
 fn insert(a: [f32; 10], n: usize) -> [f32; 10]
     requires { ⌜ n < 10 ⌝ }
-    ensures { λ r. ⌜ r ≡ take n a ++ Spectral.insert (getD a n nan) (drop (n + 1) a) ⌝ }
+    ensures { λ r. ⌜ r ≡ take n a ++ Spectral.insert lt (getD a n nan) (drop (n + 1) a) ⌝ }
 {
     let x = a[n];
     let mut out = a;
@@ -113,7 +113,7 @@ fn insert(a: [f32; 10], n: usize) -> [f32; 10]
 
 // The ten in rising order.
 fn sort(a: [f32; 10]) -> [f32; 10]
-    ensures { λ r. ⌜ r ≡ Spectral.sort a ⌝ }
+    ensures { λ r. ⌜ r ≡ Spectral.sort lt a ⌝ }
 {
     let mut out = a;
     let mut n = 10usize;

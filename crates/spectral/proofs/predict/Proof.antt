@@ -1,4 +1,5 @@
 use mathlib.Core.Path.{ap, _∙_}
+use lib.Ieee.{lt}
 use Rattle.spectral.specs.Spectral.{sort, spread, predict}
 use borrow.Author.Needs.{needs}
 use Rattle.spectral.proofs.predict.Statement.{statement}
@@ -15,7 +16,7 @@ spread-requires c κs = search needs
 
 returns : tie.Need-returns
 unfolding predict
-returns c = c .spread .ensures ∙ ap spread (c .before .sort .ensures ∙ ap sort (c .before .before .sums .ensures))
+returns c = c .spread .ensures ∙ ap spread (c .before .sort .ensures ∙ ap (sort lt) (c .before .before .sums .ensures))
 
 pub predict-spec : {M : Type 1} → statement M
 predict-spec = tie.close (tie.spec sums-requires sort-requires spread-requires returns)
