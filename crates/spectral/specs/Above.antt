@@ -1,14 +1,14 @@
 -- Above zero: what the floor and the gaps make of any float.
 use mathlib.Core.Path.{_≡_, refl, sym, ap, _∙_, subst}
 use mathlib.Core.Logic.{inl, inr}
-use Prim.Native.Nat.{ℕ, _+_, _*_, _≤_, _<_}
-use native.Mathlib.Nat.{zero-lt-suc, mul-pos, le-trans}
+use Prim.Native.Nat.{_+_, _*_, _<_}
+use native.Mathlib.Nat.{zero-lt-suc, mul-pos}
 use native.Mathlib.Omega.{arith}
 use mathlib.Core.Bool.{Bool, true, false, cond, _||_, _&&_, false≢true}
 use lib.IntN.{pos}
 use lib.Dec.{T, eqb, ltb→lt}
 use borrow.Author.Tests.{lt-leb, ne-eqb}
-use lib.Ieee.{Float, nan, inf, fin, binary32, up, down, le, lt, eq, add, round, ofBits}
+use lib.Ieee.{Float, nan, inf, fin, binary32, up, down, le, add, round, ofBits}
 use lib.Ieee.Fits.{up-pos, down-pos}
 use lib.Ieee.Exact.{HasValue}
 use lib.Ieee.Order.{round-mono}

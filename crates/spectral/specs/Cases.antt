@@ -1,14 +1,14 @@
 -- Marked cases 7 and 8, and the ceiling, which comes after the gaps.
 use mathlib.Core.Path.{_≡_, refl}
-use mathlib.Core.List.{List, [], _∷_, map}
+use mathlib.Core.List.{[], _∷_, map}
 use Prim.Native.Nat.{ℕ}
 use lib.IntN.{pos}
 use lib.ListN.{replicate}
-use lib.Ieee.{Float, binary32, ofBits, ofInt, toBits, toUnsigned, add, mul, lt, le}
+use lib.Ieee.{binary32, ofBits, ofInt, toUnsigned, add, mul, lt, le}
 use Rattle.floats.specs.Floats.{bitsAt, quantise}
 use Rattle.sequence.specs.Table.{table}
 use Rattle.sequence.specs.Total.{total}
-use Rattle.spectral.specs.Spectral.{insert, sort, spread, predict, quantiseLsf, CEILING}
+use Rattle.spectral.specs.Spectral.{sort, spread, predict, quantiseLsf, CEILING}
 
 -- 7: a zero prediction, here by coefficients that are all 0, gives 41, 362, up to 2930
 case-7 : quantiseLsf (predict (replicate 30 (ofInt binary32 (pos 80))) (replicate 10 (ofInt binary32 (pos 8))) (replicate 3908 0) 1) ≡ map pos (41 ∷ 362 ∷ 683 ∷ 1004 ∷ 1325 ∷ 1646 ∷ 1967 ∷ 2288 ∷ 2609 ∷ 2930 ∷ [])

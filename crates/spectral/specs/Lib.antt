@@ -4,5 +4,6 @@ pub mod Sorted
 pub mod Above
 pub mod TotalCmp
 pub mod Kept
+pub mod Predicted
 pub mod Quantised
 pub mod Cases

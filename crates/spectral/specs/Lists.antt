@@ -1,13 +1,15 @@
 -- What a sort is held to: the list rises, by a test, and every count over it stays. The two settle a list of whole numbers.
 use mathlib.Core.Path.{_≡_, refl, sym, ap, _∙_, subst}
-use mathlib.Core.List.{List, [], _∷_, map}
-use Prim.Native.Nat.{ℕ, _+_, _≤_, _<_}
+use mathlib.Core.List.{List, [], _∷_, _++_, map}
+use Prim.Native.Nat.{ℕ, zero, suc, _+_, _<_}
 use native.Mathlib.Nat.{le-trans}
 use native.Mathlib.Omega.{arith}
 use mathlib.Core.Bool.{Bool, true, false, cond, true≢false, false≢true}
 use lib.IntN.{ℤ, pos, negsuc}
-use lib.Dec.{T, leb}
+use lib.Dec.{T}
+use lib.ListN.{length, getD}
 use lib.Signed.{leZ}
+use Rattle.sequence.specs.Table.{table}
 use borrow.Author.Tests.{le-leb, leb-true}
 
 -- 1 for a test that is not passed
@@ -56,6 +58,30 @@ module _ {A : Type 0} where
 
   pub each-same : (p : A → Bool) (k l : List A) → Same k l → Each p l → Each p k
   each-same p k l s h = all-pass p k (s (λ x. weigh (p x)) ∙ none-fails p l h)
+
+  -- a test that f passes at each place
+  each-append : (p : A → Bool) (k l : List A) → Each p k → Each p l → Each p (k ++ l)
+  each-append p [] l g h = h
+  each-append p (x ∷ k) l g h = (g .0, each-append p k l (g .1) h)
+
+  pub each-table : (p : A → Bool) (f : ℕ → A) (n : ℕ) → ((k : ℕ) → k < n → T (p (f k))) → Each p (table f n)
+  unfolding table
+  each-table p f zero h = tt
+  each-table p f (suc n) h = each-append p (table f n) (f n ∷ []) (each-table p f n (λ k l. h k (omega arith))) (h n (omega arith), tt)
+
+  pub each-at : (p : A → Bool) (l : List A) (d : A) → Each p l → (k : ℕ) → k < length l → T (p (getD l k d))
+  each-at p [] d h k g = absurd (omega arith)
+  each-at p (x ∷ l) d h zero g = h .0
+  each-at p (x ∷ l) d h (suc k) g = each-at p l d (h .1) k (omega arith)
+
+  -- the number of the elements is one of the counts
+  tally-length : (l : List A) → tally (λ x. 1) l ≡ length l
+  unfolding tally
+  tally-length [] = refl
+  tally-length (x ∷ l) = let e = tally-length l in omega arith
+
+  pub same-length : (k l : List A) → Same k l → length k ≡ length l
+  same-length k l s = sym (tally-length k) ∙ s (λ x. 1) ∙ tally-length l
 
 pub tally-map : {A B : Type 0} (g : A → B) (f : B → ℕ) (l : List A) → tally f (map g l) ≡ tally (λ x. f (g x)) l
 unfolding tally

@@ -1,16 +1,15 @@
 -- The quantised frequencies never fall and lie in 0..=25,682.
-use mathlib.Core.Path.{_≡_, refl, sym, ap, _∙_, subst}
+use mathlib.Core.Path.{_≡_, ap}
 use mathlib.Core.List.{List}
 use mathlib.Core.Logic.{⊎-elim}
-use Prim.Native.Nat.{ℕ, zero, suc, _≤_, _<_, max}
+use Prim.Native.Nat.{ℕ, zero, suc, _≤_, _<_}
 use native.Mathlib.Nat.{le-trans, le-of-eq, eq-or-lt-of-le, le-of-suc-le-suc}
 use native.Mathlib.Omega.{arith}
-use lib.IntN.{ℤ, pos}
+use lib.IntN.{pos}
 use lib.Dec.{le→leb}
 use lib.ListN.{getD}
 use lib.Signed.{_≤ℤ_, leZ-yes}
 use lib.Ieee.{Float, nan}
-use Rattle.floats.specs.Floats.{quantise}
 use Rattle.floats.specs.Quantised.{quantise-le}
 use Rattle.sequence.specs.Table.{getD-table}
 use Rattle.sequence.specs.Total.{total}

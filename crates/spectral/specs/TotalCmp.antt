@@ -1,9 +1,9 @@
 -- `sort_by(f32::total_cmp)` and `sort` give the same frequencies where no NaN stands. The two orders differ in the two zeros alone, and the floor and the gaps wipe these out.
-use mathlib.Core.Path.{_≡_, refl, sym, ap, _∙_, subst}
+use mathlib.Core.Path.{_≡_, refl, sym, ap, _∙_}
 use mathlib.Core.List.{List, [], _∷_, map}
 use mathlib.Core.Logic.{_⊎_, inl, inr}
-use Prim.Native.Nat.{ℕ, zero, suc, _+_, _*_, _≤_, _<_}
-use native.Mathlib.Nat.{le-of-lt, le-of-eq, eq-or-lt-of-le, zero-lt-suc}
+use Prim.Native.Nat.{ℕ, zero, suc, _<_}
+use native.Mathlib.Nat.{le-of-lt, le-of-eq, eq-or-lt-of-le}
 use native.Mathlib.Omega.{arith}
 use mathlib.Core.Bool.{Bool, true, false, cond, _&&_, true≢false, false≢true}
 use lib.IntN.{ℤ, pos, negsuc}
@@ -11,7 +11,7 @@ use lib.Dec.{T, leb}
 use lib.ListN.{getD, set}
 use lib.Signed.{leZ, ltZ}
 use borrow.Author.Tests.{le-leb, leb-true, ltb-true, ltb-false}
-use lib.Ieee.{Float, nan, inf, fin, binary32, fits, le, lt, eq, add}
+use lib.Ieee.{Float, nan, binary32, fits, le, lt, add}
 use lib.Ieee.Fits.{and-l, and-r}
 use lib.Ieee.Scale.{finite}
 use lib.Ieee.Positive.{above}
@@ -22,7 +22,7 @@ use Rattle.floats.specs.Order.{not-below, below-le}
 use Rattle.sequence.specs.Table.{table, table-same}
 use Rattle.spectral.specs.Spectral.{sort, larger, smaller, spacedAt, spread, FLOOR, GAP, CEILING}
 use Rattle.spectral.specs.Above.{floor-above, larger-above, above-zero, gap-above}
-use Rattle.spectral.specs.Lists.{Rising, Each, Same, tally, each-same, tally-map, settled}
+use Rattle.spectral.specs.Lists.{Rising, Each, Same, each-same, tally-map, settled}
 use Rattle.spectral.specs.Sorted.{sort-same, sort-each, sort-rises}
 
 -- what total_cmp compares: a float's bits as a signed number, those below the sign flipped where the sign is set

@@ -1,4 +1,3 @@
-use mathlib.Core.Path.{_∙_}
 use borrow.Author.Tests.{lt-ltb, le-ltb}
 use Rattle.spectral.specs.Spectral.{stage2At}
 use borrow.Author.Needs.{needs}
