@@ -44,7 +44,7 @@ stage2-within bytes s lo hi k p q h = go (ltb k 5) (ltb-true k 5) (ltb-false k 5
     go false y n = let l = n refl in high-within s hi (k - 5) q (omega arith)
 
 pub residual-kept : (words : List ℤ) (bytes : List ℕ) → Words16 words → SoundBytes bytes → (stage1 lo hi : ℕ) → lo < 64 → hi < 64 → Bounded 131072 10 (residual words bytes stage1 lo hi)
-unfolding residual
+unfolding residual residualAt
 residual-kept words bytes w s stage1 lo hi p q =
     of-table (residualAt words bytes stage1 lo hi) 131072 10 (λ k h. sum-kept (word words (LSF-CB1 + (stage1 * 10 + k))) (stage2At bytes lo hi k) (w (LSF-CB1 + (stage1 * 10 + k))) (stage2-within bytes s lo hi k p q h))
 
@@ -54,7 +54,7 @@ length-residual words bytes stage1 lo hi = length-table (residualAt words bytes 
 
 -- ---- at reset
 pub initial-kept : (words : List ℤ) → Words16 words → Bounded 131072 30 (initial words)
-unfolding initial
+unfolding initial initialAt
 initial-kept words w =
     of-table (initialAt words) 131072 30 (λ k h. →within 131072 (initialAt words k) (wider 32768 131072 (initialAt words k) (lit≤ tt) (int-within (word words (LSF-MEAN + k % 10)) (w (LSF-MEAN + k % 10)))))
 

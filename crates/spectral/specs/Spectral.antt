@@ -13,10 +13,11 @@ use Rattle.sequence.specs.Table.{table}
 use Rattle.sequence.specs.Total.{total}
 
 -- ---- the history at reset: three times the mean
-abbrev pub initialAt : List ℤ → ℕ → Float
+unfoldable pub initialAt : List ℤ → ℕ → Float
 initialAt words k = ofInt binary32 (word words (LSF-MEAN + k % 10))
 
 unfoldable pub initial : List ℤ → List Float
+unfolding initialAt
 initial words = table (initialAt words) 30
 
 -- ---- the residual
@@ -25,11 +26,13 @@ unfoldable pub stage2At : List ℕ → ℕ → ℕ → ℕ → Float
 stage2At bytes stage2Low stage2High k = cond (ltb k 5) (low bytes stage2Low k) (high bytes stage2High (k - 5))
 
 -- a word of the first stage's codebook, as a float, and the second stage's float
-abbrev pub residualAt : List ℤ → List ℕ → ℕ → ℕ → ℕ → ℕ → Float
+unfoldable pub residualAt : List ℤ → List ℕ → ℕ → ℕ → ℕ → ℕ → Float
+unfolding stage2At
 residualAt words bytes stage1 stage2Low stage2High k =
     add binary32 (ofInt binary32 (word words (LSF-CB1 + (stage1 * 10 + k)))) (stage2At bytes stage2Low stage2High k)
 
 unfoldable pub residual : List ℤ → List ℕ → ℕ → ℕ → ℕ → List Float
+unfolding residualAt
 residual words bytes stage1 stage2Low stage2High = table (residualAt words bytes stage1 stage2Low stage2High) 10
 
 -- ---- the sum of four products, worked left to right, each operation rounded once

@@ -11,7 +11,7 @@ use lib.Dec.{T, leb}
 use lib.ListN.{getD, set}
 use lib.Signed.{leZ, ltZ}
 use borrow.Author.Tests.{le-leb, leb-true, ltb-true, ltb-false}
-use lib.Ieee.{Float, nan, binary32, fits, le, lt, add}
+use lib.Ieee.{Float, nan, binary32, fits, le, lt, add, ofBits, toBits}
 use lib.Ieee.Fits.{and-l, and-r}
 use lib.Ieee.Scale.{finite}
 use lib.Ieee.Positive.{above}
@@ -28,6 +28,11 @@ use Rattle.spectral.specs.Sorted.{sort-same, sort-each, sort-rises}
 -- what total_cmp compares: a float's bits as a signed number, those below the sign flipped where the sign is set
 unfoldable pub totalKey : Float → ℤ
 totalKey x = cond (negative x) (negsuc (pattern x)) (pos (pattern x))
+
+-- -0 is before +0
+zero-keys : (totalKey (ofBits binary32 0x8000_0000) ≡ negsuc 0) × (totalKey (ofBits binary32 0) ≡ pos 0)
+unfolding totalKey toBits ofBits
+zero-keys = (refl, refl)
 
 abbrev pub totalLe : Float → Float → Bool
 totalLe x y = leZ (totalKey x) (totalKey y)

@@ -1,3 +1,4 @@
+-- Patterns without their sign are in the order of the sizes.
 use Rattle.floats.proofs.Patterns.{bits-within}
 use Rattle.floats.proofs.pattern_within.Statement.{statement}
 use Rattle.floats.proofs.pattern_within.Tie as tie

@@ -1,3 +1,4 @@
+-- The loop writes the table of `initial_at`.
 use mathlib.Core.Path.{refl}
 use Prim.Native.Nat.{_-_}
 use lib.ListN.{replicate}

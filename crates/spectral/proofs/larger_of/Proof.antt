@@ -1,3 +1,4 @@
+-- The two arms are the two arms of the definition, once the numbers are read back from their bits.
 use mathlib.Core.Path.{_∙_}
 use mir.Facts.{toZ-ofZ}
 use Rattle.spectral.proofs.larger_of.Statement.{statement}

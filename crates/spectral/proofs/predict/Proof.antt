@@ -1,3 +1,4 @@
+-- Each of the three calls gives its part of the definition.
 use mathlib.Core.Path.{ap, _∙_}
 use lib.Ieee.{lt}
 use Rattle.spectral.specs.Spectral.{sort, spread, predict}

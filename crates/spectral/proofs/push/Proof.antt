@@ -1,3 +1,4 @@
+-- The loop writes the table of `pushed_at`, and that table is the residual before the history.
 use mathlib.Core.Path.{refl, _∙_}
 use Prim.Native.Nat.{_-_}
 use lib.ListN.{replicate}

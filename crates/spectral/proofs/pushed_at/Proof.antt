@@ -1,3 +1,4 @@
+-- The test on k picks the arm.
 use borrow.Author.Tests.{lt-ltb, le-ltb}
 use borrow.Author.Needs.{needs}
 use Rattle.spectral.proofs.pushed_at.Statement.{statement}

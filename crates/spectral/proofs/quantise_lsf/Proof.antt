@@ -1,3 +1,4 @@
+-- By turn k the prior is the largest of the first k, and what is written is that at each turn.
 use mathlib.Core.Path.{refl, sym, subst, _∙_}
 use Prim.Native.Nat.{_-_, _+_}
 use lib.IntN.{ℤ, pos}

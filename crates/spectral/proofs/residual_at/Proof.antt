@@ -1,5 +1,7 @@
+-- A word of 16 bits is a float exactly, and the sum is the definition's.
 use mir.Syntax.{w16}
 use mir.ValLaws.{toZ-ofZ}
+use Rattle.spectral.specs.Spectral.{residualAt}
 use borrow.Author.Needs.{sfits-of}
 use borrow.Author.Needs.{needs}
 use Rattle.spectral.proofs.residual_at.Statement.{statement}
@@ -24,6 +26,7 @@ stage2-at-requires : tie.Need-stage2-at-requires
 stage2-at-requires c κs = search needs
 
 returns : tie.Need-returns
+unfolding residualAt
 returns c = let w = c .before .before .word in rw (toZ-ofZ w16 (w .result) (sfits-of (w .ok)), w .ensures, c .stage2-at .ensures)
 
 pub residual-at-spec : {M : Type 1} → statement M

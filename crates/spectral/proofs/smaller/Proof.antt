@@ -1,3 +1,4 @@
+-- The two arms are the two arms of the definition.
 use Rattle.spectral.proofs.smaller.Statement.{statement}
 use Rattle.spectral.proofs.smaller.Tie as tie
 

@@ -1,3 +1,4 @@
+-- By turn n the places from n on are sorted, those before it as they were.
 use mathlib.Core.Path.{_≡_}
 use Prim.Native.Nat.{_≤_}
 use lib.ListN.{length}

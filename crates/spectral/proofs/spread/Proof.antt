@@ -1,3 +1,4 @@
+-- By turn k the places before k are spaced, and the prior is the last of them.
 use mathlib.Core.Path.{refl}
 use Prim.Native.Nat.{_-_}
 use lib.ListN.{replicate}

@@ -1,3 +1,4 @@
+-- The test on k picks the codebook.
 use borrow.Author.Tests.{lt-ltb, le-ltb}
 use Rattle.spectral.specs.Spectral.{stage2At}
 use borrow.Author.Needs.{needs}

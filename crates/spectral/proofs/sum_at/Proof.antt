@@ -1,3 +1,4 @@
+-- The same operations in the same order.
 use Rattle.spectral.specs.Spectral.{sumAt}
 use borrow.Author.Needs.{needs}
 use Rattle.spectral.proofs.sum_at.Statement.{statement}
