@@ -1,10 +1,10 @@
 -- The whole number nearest to a float, a tie to the even one: how the comparisons with n + 0.5, which is exact, find it.
 use mathlib.Core.Path.{_≡_, refl, sym, ap, _∙_, subst}
 use Prim.Native.Nat.{ℕ, _+_, _*_, _/_, _%_, _^_, _≤_, _<_, compare, Ordering, Ordering·lt, Ordering·eq, Ordering·gt}
-use native.Mathlib.Nat.{lt-of-lt-of-le, lt-of-le-of-lt, le-trans, le-of-eq, le-of-lt, zero-lt-suc, mul-one, one-mul, mul-comm, mul-assoc, mul-le-mul-right, add-mul, div-add-mod', div-lt-iff-lt-mul}
+use native.Mathlib.Nat.{lt-of-lt-of-le, lt-of-le-of-lt, le-trans, le-of-eq, le-of-lt, zero-lt-suc, mul-one, one-mul, mul-comm, mul-assoc, add-mul, div-add-mod', div-lt-iff-lt-mul}
 use native.Mathlib.Omega.{arith}
 use native.Mathlib.Numerals.{add-one}
-use mathlib.Core.Bool.{Bool, true, false, not, true≢false, false≢true}
+use mathlib.Core.Bool.{true, false, not}
 use lib.IntN.{ℤ, pos}
 use lib.Arith.{lt-of-le-ne}
 use lib.Dec.{T, eqb, isLe, isEq, leb→le, nleb→lt, eqb→eq, eqb-refl, ltb→lt, lt→ltb, lit≤}
@@ -12,7 +12,7 @@ use lib.Pow.{shl-lt, pow-mono}
 use lib.Ieee.{Float, nan, inf, fin, binary32, up, down, nearest, round, add, lt, ofInt, ofBits, toUnsigned}
 use lib.Ieee.Fits.{down-pos}
 use lib.Ieee.Exact.{HasValue, round-exact}
-use lib.Ieee.Nearest.{closest, closest-mono}
+use lib.Ieee.Nearest.{closest}
 use Rattle.floats.specs.Floats.{nearestEven}
 use Rattle.floats.specs.Value.{add-at, whole-val, lt-of, ge-of, gt-of, le-of}
 
@@ -79,41 +79,39 @@ half-val n h =
 abbrev pub Small : Float → Type 0
 Small x = T (lt (fin false 0 (pos 0)) x) × T (lt x (fin false 32767 (pos 0)))
 
-below-top : (m : ℕ) (e : ℤ) → T (lt (fin false m e) (fin false 32767 (pos 0))) → m * up e < 32767 * down e
+-- is m * 2 ^ e, and that is below 32,767
+by-size : (P : Float → Type 0) → ((m : ℕ) (e : ℤ) → m * up e < 32767 * down e → P (fin false m e)) → (x : Float) → Small x → P x
 unfolding lt
-below-top m e h = lt-of-le-of-lt (le-of-eq (sym (mul-one (m * up e)))) (ltb→lt (m * up e * 1) (32767 * 1 * down e) h)
+by-size P f nan h = absurd (h .0)
+by-size P f (inf true) h = absurd (h .0)
+by-size P f (inf false) h = absurd (h .1)
+by-size P f (fin true m e) h = absurd (h .0)
+by-size P f (fin false m e) h = f m e (lt-of-le-of-lt (le-of-eq (sym (mul-one (m * up e)))) (ltb→lt (m * up e * 1) (32767 * 1 * down e) (h .1)))
 
 -- what `truncating_f32_to_u64` asks
-pub above-minus-one : (x : Float) → Small x → T (lt (fin true 1 (pos 0)) x)
+above : (m : ℕ) (e : ℤ) → T (lt (fin true 1 (pos 0)) (fin false m e))
 unfolding lt
-above-minus-one nan h = absurd (h .0)
-above-minus-one (inf true) h = absurd (h .0)
-above-minus-one (inf false) h = tt
-above-minus-one (fin true m e) h = absurd (h .0)
-above-minus-one (fin false m e) h = lt→ltb 0 (1 * 1 * down e + m * up e * 1) (let d : 0 < down e = down-pos e in omega arith)
+above m e = lt→ltb 0 (1 * 1 * down e + m * up e * 1) (let d : 0 < down e = down-pos e in omega arith)
+
+pub above-minus-one : (x : Float) → Small x → T (lt (fin true 1 (pos 0)) x)
+above-minus-one = by-size (λ x. T (lt (fin true 1 (pos 0)) x)) (λ m e h. above m e)
+
+below : (m : ℕ) (e : ℤ) → m * up e < 32767 * down e → T (lt (fin false m e) (fin false 1 (pos 64)))
+unfolding lt
+below m e h = lt→ltb (m * up e * 1) (1 * 2 ^ 64 * down e) (omega arith)
 
 pub below-2-64 : (x : Float) → Small x → T (lt x (fin false 1 (pos 64)))
-unfolding lt
-below-2-64 nan h = absurd (h .0)
-below-2-64 (inf true) h = absurd (h .0)
-below-2-64 (inf false) h = absurd (h .1)
-below-2-64 (fin true m e) h = absurd (h .0)
-below-2-64 (fin false m e) h = lt→ltb (m * up e * 1) (1 * 2 ^ 64 * down e) (let d : m * up e < 32767 * down e = below-top m e (h .1) in omega arith)
+below-2-64 = by-size (λ x. T (lt x (fin false 1 (pos 64)))) below
 
 -- the whole part
-pub whole-part : (m : ℕ) (e : ℤ) (n : ℕ) → m * up e < 32767 * down e → n ≡ toUnsigned 64 (fin false m e) → (n ≡ m * up e / down e) × (n < 32767)
+whole-part : (m : ℕ) (e : ℤ) (n : ℕ) → m * up e < 32767 * down e → n ≡ toUnsigned 64 (fin false m e) → (n ≡ m * up e / down e) × (n < 32767)
 unfolding toUnsigned
 whole-part m e n h k =
     let l : m * up e / down e < 32767 = div-lt-iff-lt-mul (down-pos e) .1 h in
     (omega arith, omega arith)
 
 pub whole-small : (x : Float) (n : ℕ) → Small x → n ≡ toUnsigned 64 x → n < 32767
-unfolding lt
-whole-small nan n h k = absurd (h .0)
-whole-small (inf true) n h k = absurd (h .0)
-whole-small (inf false) n h k = absurd (h .1)
-whole-small (fin true m e) n h k = absurd (h .0)
-whole-small (fin false m e) n h k = whole-part m e n (below-top m e (h .1)) k .1
+whole-small x n = by-size (λ x. n ≡ toUnsigned 64 x → n < 32767) (λ m e h k. whole-part m e n h k .1) x
 
 -- ---- the three answers
 -- a is w * d + r, and w is the whole part
@@ -134,45 +132,34 @@ module _ (a d : ℕ) where
   just-half h k = let p = parts in let q = odd-times (a / d) in omega arith
 
 pub to-below : (x : Float) (n : ℕ) → Small x → n ≡ toUnsigned 64 x → lt x (halfAfter n) ≡ true → n ≡ nearestEven x
-unfolding nearestEven lt
-to-below nan n h k t = absurd (h .0)
-to-below (inf true) n h k t = absurd (h .0)
-to-below (inf false) n h k t = absurd (h .1)
-to-below (fin true m e) n h k t = absurd (h .0)
-to-below (fin false m e) n h k t =
+unfolding nearestEven
+to-below x n =
+    by-size (λ x. n ≡ toUnsigned 64 x → lt x (halfAfter n) ≡ true → n ≡ nearestEven x) (λ m e h k t.
     let a = m * up e in
     let d = down e in
-    let w = whole-part m e n (below-top m e (h .1)) k in
-    let v = half-val n (le-of-lt (w .1)) in
-    let l : a * 2 < (2 * n + 1) * d = lt-of m e (halfAfter n) (2 * n + 1) 2 (zero-lt-suc 1) v t in
-    w .0 ∙ sym (down-near (a / d) (a % d * 2) d (less-half a d (subst (λ (z : ℕ). a * 2 < (2 * z + 1) * d) (w .0) l)))
+    let w = whole-part m e n h k in
+    let l : a * 2 < (2 * n + 1) * d = lt-of m e (halfAfter n) (2 * n + 1) 2 (zero-lt-suc 1) (half-val n (le-of-lt (w .1))) t in
+    w .0 ∙ sym (down-near (a / d) (a % d * 2) d (less-half a d (subst (λ (z : ℕ). a * 2 < (2 * z + 1) * d) (w .0) l)))) x
 
 pub to-above : (x : Float) (n : ℕ) → Small x → n ≡ toUnsigned 64 x → lt (halfAfter n) x ≡ true → n + 1 ≡ nearestEven x
-unfolding nearestEven lt
-to-above nan n h k t = absurd (h .0)
-to-above (inf true) n h k t = absurd (h .0)
-to-above (inf false) n h k t = absurd (h .1)
-to-above (fin true m e) n h k t = absurd (h .0)
-to-above (fin false m e) n h k t =
+unfolding nearestEven
+to-above x n =
+    by-size (λ x. n ≡ toUnsigned 64 x → lt (halfAfter n) x ≡ true → n + 1 ≡ nearestEven x) (λ m e h k t.
     let a = m * up e in
     let d = down e in
-    let w = whole-part m e n (below-top m e (h .1)) k in
-    let v = half-val n (le-of-lt (w .1)) in
-    let l : (2 * n + 1) * d < a * 2 = gt-of m e (halfAfter n) (2 * n + 1) 2 (zero-lt-suc 1) v t in
-    ap (λ (z : ℕ). z + 1) (w .0) ∙ sym (up-near (a / d) (a % d * 2) d (more-half a d (subst (λ (z : ℕ). (2 * z + 1) * d < a * 2) (w .0) l)))
+    let w = whole-part m e n h k in
+    let l : (2 * n + 1) * d < a * 2 = gt-of m e (halfAfter n) (2 * n + 1) 2 (zero-lt-suc 1) (half-val n (le-of-lt (w .1))) t in
+    ap (λ (z : ℕ). z + 1) (w .0) ∙ sym (up-near (a / d) (a % d * 2) d (more-half a d (subst (λ (z : ℕ). (2 * z + 1) * d < a * 2) (w .0) l)))) x
 
 pub to-even : (x : Float) (n : ℕ) → Small x → n ≡ toUnsigned 64 x → lt x (halfAfter n) ≡ false → lt (halfAfter n) x ≡ false → n + n % 2 ≡ nearestEven x
-unfolding nearestEven lt
-to-even nan n h k t u = absurd (h .0)
-to-even (inf true) n h k t u = absurd (h .0)
-to-even (inf false) n h k t u = absurd (h .1)
-to-even (fin true m e) n h k t u = absurd (h .0)
-to-even (fin false m e) n h k t u =
+unfolding nearestEven
+to-even x n =
+    by-size (λ x. n ≡ toUnsigned 64 x → lt x (halfAfter n) ≡ false → lt (halfAfter n) x ≡ false → n + n % 2 ≡ nearestEven x) (λ m e h k t u.
     let a = m * up e in
     let d = down e in
-    let w = whole-part m e n (below-top m e (h .1)) k in
+    let w = whole-part m e n h k in
     let v = half-val n (le-of-lt (w .1)) in
     let l : (2 * n + 1) * d ≤ a * 2 = ge-of m e (halfAfter n) (2 * n + 1) 2 (zero-lt-suc 1) v t in
     let r : a * 2 ≤ (2 * n + 1) * d = le-of m e (halfAfter n) (2 * n + 1) 2 (zero-lt-suc 1) v u in
     ap (λ (z : ℕ). z + z % 2) (w .0)
-    ∙ sym (tie-near (a / d) (a % d * 2) d (just-half a d (subst (λ (z : ℕ). (2 * z + 1) * d ≤ a * 2) (w .0) l) (subst (λ (z : ℕ). a * 2 ≤ (2 * z + 1) * d) (w .0) r)))
+    ∙ sym (tie-near (a / d) (a % d * 2) d (just-half a d (subst (λ (z : ℕ). (2 * z + 1) * d ≤ a * 2) (w .0) l) (subst (λ (z : ℕ). a * 2 ≤ (2 * z + 1) * d) (w .0) r)))) x

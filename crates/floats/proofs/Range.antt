@@ -1,12 +1,11 @@
 -- The two comparisons -B ≤ x and x ≤ B say what `within B x` says: t is the float of B.
-use mathlib.Core.Path.{_≡_, refl, sym, ap, _∙_, subst}
-use Prim.Native.Nat.{ℕ, _*_, _≤_, _<_}
-use native.Mathlib.Nat.{le-trans, le-of-eq, mul-one, mul-right-comm, mul-le-mul-right, mul-lt-mul-of-pos-right, le-of-mul-le-mul-right, lt-of-le-of-lt, lt-of-lt-of-le}
-use mathlib.Core.Bool.{Bool, true, false, _||_, _&&_, true≢false, false≢true}
-use lib.IntN.{ℤ, pos}
+use mathlib.Core.Path.{_≡_, refl, sym, ap, _∙_}
+use Prim.Native.Nat.{ℕ, _*_, _<_}
+use native.Mathlib.Nat.{le-trans, le-of-eq, mul-one, mul-right-comm, mul-le-mul-right, mul-lt-mul-of-pos-right, lt-of-le-of-lt}
+use mathlib.Core.Bool.{Bool, true, false, true≢false, false≢true}
 use lib.Dec.{leb}
 use borrow.Author.Tests.{le-leb, lt-leb, leb-true, leb-false}
-use lib.Ieee.{Float, nan, inf, fin, up, down, le, lt, eq, neg}
+use lib.Ieee.{Float, nan, inf, fin, up, down, le, neg}
 use lib.Ieee.Fits.{down-pos}
 use lib.Ieee.Exact.{HasValue}
 use Rattle.floats.specs.Floats.{within}

@@ -1,9 +1,9 @@
 -- What is read out of f32 bytes and made of floats. A Float is lib.Ieee's: nan, an infinity, or `fin s m e`, the number m * 2 ^ e exactly, negative where s is true.
 use Prim.Native.Nat.{ℕ, _+_, _*_, min}
-use mathlib.Core.List.{List, [], _∷_}
+use mathlib.Core.List.{List, _∷_, []}
 use mathlib.Core.Path.{_≡_, refl}
 use mathlib.Core.Bool.{Bool, true, false, cond}
-use lib.IntN.{pos, negsuc}
+use lib.IntN.{pos}
 use lib.Dec.{leb}
 use lib.ListN.{getD}
 use lib.Ieee.{Float, nan, inf, fin, binary32, up, down, ofBits}

@@ -3,5 +3,8 @@ pub mod Value
 pub mod Within
 pub mod NoNan
 pub mod Order
+pub mod Patterns
+pub mod Compared
+pub mod Numbers
 pub mod Quantised
 pub mod Cases

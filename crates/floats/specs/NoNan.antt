@@ -5,11 +5,10 @@ use native.Mathlib.Omega.{arith}
 use mathlib.Core.Bool.{Bool, Bool·beq, true, false, not, cond, _&&_, false≢true}
 use lib.Dec.{T, ltb, ltb→lt, not-T}
 use lib.Ieee as Ieee
-use lib.Ieee.{Float, nan, inf, fin, Format, binary32, add, mul, le, nanBits, isNan, units, odd, round, sum, unlike}
+use lib.Ieee.{Float, nan, inf, fin, Format, binary32, add, sub, neg, mul, le, nanBits, isNan, units, odd, round, sum, unlike}
 use lib.Ieee.Fits.{round-is}
 use lib.Ieee.Bits.{nanBits-above}
 use lib.Ieee.Scale.{finite}
-use Rattle.floats.specs.Within.{Within}
 
 -- ---- no NaN
 -- a pattern up to the infinity's is no NaN's
@@ -61,6 +60,19 @@ add-no-nan f (inf s) (fin t n d) p q = tt
 add-no-nan f (fin s m e) nan p q = absurd q
 add-no-nan f (fin s m e) (inf t) p q = absurd q
 add-no-nan f (fin s m e) (fin t n d) p q = sum-no-nan f s _ t _ _
+
+pub sub-no-nan : (f : Format) (x y : Float) → T (not (isNan x)) → T (finite y) → T (not (isNan (sub f x y)))
+unfolding sub neg
+sub-no-nan f x nan p q = absurd q
+sub-no-nan f x (inf t) p q = absurd q
+sub-no-nan f x (fin t n d) p q = add-no-nan f x (fin (not t) n d) p tt
+
+-- a finite value is none
+pub finite-no-nan : (x : Float) → T (finite x) → T (not (isNan x))
+unfolding isNan
+finite-no-nan nan p = absurd p
+finite-no-nan (inf s) p = absurd p
+finite-no-nan (fin s m e) p = tt
 
 -- ---- a comparison that holds says that neither side is a NaN
 pub above-no-nan : (a x : Float) → le a x ≡ true → T (not (isNan x))

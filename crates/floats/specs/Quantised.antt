@@ -1,15 +1,15 @@
 -- `quantise` keeps to its bounds and to the order.
-use mathlib.Core.Path.{_≡_, refl, sym, ap, _∙_}
-use Prim.Native.Nat.{ℕ, _*_, _≤_, min}
-use native.Mathlib.Nat.{le-trans, le-of-eq, zero-lt-suc, mul-one, zero-mul, le-of-mul-le-mul-right}
+use mathlib.Core.Path.{_≡_, sym, _∙_}
+use Prim.Native.Nat.{ℕ, _*_, _≤_}
+use native.Mathlib.Nat.{le-of-eq, zero-lt-suc, zero-mul, le-of-mul-le-mul-right}
 use native.Mathlib.Omega.{arith}
-use mathlib.Core.Bool.{Bool, true, false, _||_, _&&_, cond, false≢true}
+use mathlib.Core.Bool.{Bool, true, false, _&&_, false≢true, _||_}
 use lib.Dec.{eqb}
 use borrow.Author.Tests.{leb-true, eqb-true}
-use lib.Ieee.{Float, nan, inf, fin, up, down, le, lt, eq}
+use lib.Ieee.{Float, nan, inf, fin, up, down, le}
 use lib.Ieee.Fits.{down-pos}
 use lib.Ieee.Nearest.{closest, closest-mono}
-use Rattle.floats.specs.Floats.{nearestEven, quantise}
+use Rattle.floats.specs.Floats.{quantise}
 use Rattle.floats.specs.Order.{or-eq}
 
 pub quantise-le : (top : ℕ) (x : Float) → quantise top x ≤ top

@@ -1,8 +1,8 @@
 -- Floats by the fractions that they equal: sums, products, whole numbers, comparisons.
-use mathlib.Core.Path.{_≡_, refl, sym, ap, _∙_}
+use mathlib.Core.Path.{_≡_, sym, ap, _∙_}
 use Prim.Native.Nat.{ℕ, _+_, _*_, _^_, _≤_, _<_}
 use native.Mathlib.Nat.{lt-of-lt-of-le, lt-of-le-of-lt, le-trans, le-of-eq, zero-lt-suc, mul-one, mul-comm, mul-assoc, mul-left-comm, mul-right-comm, mul-le-mul-right, mul-lt-mul-of-pos-right, le-of-mul-le-mul-right, lt-of-mul-lt-mul-right, mul-pos, mul-mul-mul-comm, add-mul}
-use mathlib.Core.Bool.{Bool, true, false, true≢false}
+use mathlib.Core.Bool.{true, false, true≢false}
 use lib.IntN.{ℤ, pos}
 use lib.Dec.{lit≤}
 use borrow.Author.Tests.{ltb-true, ltb-false}

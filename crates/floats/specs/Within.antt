@@ -1,10 +1,10 @@
 -- Bounds that the operations keep: `Within B x` says that x is finite and at most B in size, as `within B x` tests.
-use mathlib.Core.Path.{_≡_, refl, sym, ap, _∙_, subst}
+use mathlib.Core.Path.{_≡_, sym, ap, _∙_, subst}
 use mathlib.Core.Logic.{_⊎_, inl, inr}
 use Prim.Native.Nat.{ℕ, zero, suc, _+_, _-_, _*_, _^_, _≤_, _<_}
 use native.Mathlib.Nat.{le-trans, le-of-eq, le-of-lt, zero-lt-suc, mul-one, mul-comm, mul-assoc, mul-left-comm, mul-right-comm, mul-le-mul-right, mul-le-mul, le-of-mul-le-mul-right, mul-pos, mul-mul-mul-comm, add-mul}
 use native.Mathlib.Omega.{arith}
-use mathlib.Core.Bool.{Bool, Bool·beq, true, false, _&&_, _||_, cond, true≢false}
+use mathlib.Core.Bool.{Bool, Bool·beq, true, false, _&&_, cond, true≢false, _||_}
 use lib.IntN.{ℤ, pos, negsuc}
 use lib.Signed.{mag}
 use lib.Dec.{T, ltb, eqb, ltb→lt, eqb→eq, leb→le, le→leb, lit≤}

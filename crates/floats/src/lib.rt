@@ -50,11 +50,12 @@ pub fn within(x: f32, bound: u32) -> bool
     if x >= -b { x <= b } else { false }
 }
 
-// Whether the float of a bit pattern is finite and at most 65,536 in size.
+// Whether the float of a bit pattern is finite and at most 65,536 in size: patterns without their
+// sign are in the order of the sizes, and 0x4780_0000 is that of 65,536.
 pub fn pattern_within(n: u32) -> bool
     ensures { λ r. ⌜ r ≡ Floats.within 65536 (ofBits binary32 n) ⌝ }
 {
-    within(from_bits(n), 65536)
+    n % 0x8000_0000 <= 0x4780_0000
 }
 
 // The float nearest to n. Each half of n is a float exactly, and so is the upper half times 2^16,

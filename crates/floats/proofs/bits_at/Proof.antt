@@ -1,3 +1,4 @@
+-- The four bytes lie in the slice, and `word` gives their number.
 use Rattle.floats.specs.Floats.{bitsAt}
 use borrow.Author.Needs.{needs}
 use Rattle.floats.proofs.bits_at.Statement.{statement}

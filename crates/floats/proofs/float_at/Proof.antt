@@ -1,3 +1,4 @@
+-- The float of the number that `bits_at` gives.
 use mathlib.Core.Path.{_∙_, ap}
 use Prim.Native.Nat.{ℕ}
 use lib.Ieee.{binary32, ofBits}

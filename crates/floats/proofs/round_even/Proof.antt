@@ -1,8 +1,6 @@
 -- The float n + 0.5 is exact, so the comparisons with it say on which side of the middle x lies.
-use Prim.Native.Nat.{_<_}
-use native.Mathlib.Nat.{le-of-lt, le-trans}
 use native.Mathlib.Omega.{arith}
-use lib.Dec.{le→leb, lit≤}
+use lib.Dec.{le→leb}
 use lib.Ieee.{inFloat}
 use Rattle.floats.proofs.Even.{above-minus-one, below-2-64, whole-small, to-below, to-above, to-even}
 use Rattle.floats.proofs.round_even.Statement.{statement}

@@ -1,0 +1,4 @@
+mod Insertion
+mod Spacing
+mod Pushed
+mod Largest

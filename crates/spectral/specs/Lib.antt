@@ -1,0 +1,9 @@
+pub mod Spectral
+pub mod Lists
+pub mod Sorted
+pub mod Above
+pub mod TotalCmp
+pub mod Kept
+pub mod Predicted
+pub mod Quantised
+pub mod Cases
