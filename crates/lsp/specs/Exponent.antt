@@ -3,11 +3,9 @@ use native.Mathlib.Omega.{arith}
 use mathlib.Core.Bool.{Bool, true, false}
 use mathlib.Core.Path.{_≡_, refl, sym, ap, _∙_}
 use Prim.Native.Nat.{ℕ, zero, suc, _+_, _-_, _*_, _^_, _≤_, _<_}
-use native.Mathlib.Nat.{mul-le-mul, lt-of-not-le, not-le-of-lt, le-trans}
-use lib.Count.{leading-top}
+use native.Mathlib.Nat.{mul-le-mul}
 use lib.Dec.{ltb, eqb, le→leb, leb→le}
-use lib.Pow.{pow-mono}
-use lib.IntN.{ℤ, pos, negsuc, negℤ, natAbs, subℕ, _+ℤ_, _-ℤ_, _*ℤ_, +ℤ-assoc, +ℤ-comm}
+use lib.IntN.{ℤ, pos, negsuc, negℤ, natAbs, subℕ, sucℤ, _+ℤ_, +ℤ-one}
 use lib.Signed.{mag, _≤ℤ_, leZ-yes}
 use borrow.Author.Tests.{ltb-true, ltb-false, eqb-true, eqb-false}
 use Rattle.fixed.specs.Fixed.{acc, fold, mul, shift, exp, wrap, normalisedReciprocal}
@@ -15,7 +13,7 @@ use Rattle.fixed.specs.Abs.{abs-neg}
 use Rattle.fixed.specs.Integers.{sub-is, sub-above, sub-below}
 use Rattle.fixed.specs.Wrap.{wrap-id, acc-fits}
 use Rattle.fixed.specs.Sums.{fold-fits}
-use Rattle.fixed.specs.Shifts.{shift-up, mag-acc, exp-top, exp-of-zero}
+use Rattle.fixed.specs.Shifts.{shift-up, exp-at-most, exp-at-least, exp-of-zero}
 use Rattle.lsp.specs.Lsp.{residual, exponent, scale}
 
 -- ---- the residual is 2 ^ 30 - 64·k²: the accumulator does not wrap
@@ -43,28 +41,22 @@ module _ (kv : ℤ) (h : natAbs kv ≤ 32768) where
       ∙ fold-fits (pos 1073741824) (negℤ (pos (a * a * 2 * 32))) (omega (arith, most, abs-neg (pos (a * a * 2 * 32))))
       ∙ sub-is 1073741824 (a * a * 2 * 32)
 
--- ---- where a residual's size, which is no sign bit, has its top digit at 18 to 35, the exponent is from -4 to 13
+-- ---- from the bounds of the residual's size
 abbrev pub Small : ℤ → Type 0
 Small e = (negsuc 3 ≤ℤ e) × (e ≤ℤ pos 13)
 
-less : (j : ℕ) → 18 ≤ j → j ≤ 35 → Small (subℕ 31 j)
-less j p q = go (ltb 31 j) refl
+one-more : (e : ℤ) → negsuc 4 ≤ℤ e → e ≤ℤ pos 12 → Small (e +ℤ pos 1)
+one-more e p q = rw (+ℤ-one e) (go e p q)
   where
-    go : (t : Bool) → ltb 31 j ≡ t → Small (subℕ 31 j)
-    go true t = rw (sub-below 31 j (ltb-true 31 j t)) (leZ-yes (le→leb (j - 32) 3 (omega arith)), leZ-yes tt)
-    go false t = rw (sub-above 31 j (ltb-false 31 j t)) (leZ-yes tt, leZ-yes (le→leb (31 - j) 13 (omega arith)))
-
-one-more : (j : ℕ) → pos 30 -ℤ pos j +ℤ pos 1 ≡ subℕ 31 j
-one-more j = +ℤ-assoc (pos 30) (negℤ (pos j)) (pos 1) ∙ ap (λ (z : ℤ). pos 30 +ℤ z) (+ℤ-comm (negℤ (pos j)) (pos 1)) ∙ sym (+ℤ-assoc (pos 30) (pos 1) (negℤ (pos j))) ∙ sub-is 31 j
+    go : (e : ℤ) → negsuc 4 ≤ℤ e → e ≤ℤ pos 12 → Small (sucℤ e)
+    go (pos n) p q = (leZ-yes tt, leZ-yes (le→leb (suc n) 13 (omega (arith, leb→le n 12 (q .le)))))
+    go (negsuc zero) p q = (leZ-yes tt, leZ-yes tt)
+    go (negsuc (suc n)) p q = (leZ-yes (le→leb n 3 (omega (arith, leb→le (suc n) 4 (p .le)))), leZ-yes tt)
 
 from-size : (v : ℤ) → natAbs v < 549755813888 → 262144 ≤ mag v → mag v < 68719476736 → Small (exp v +ℤ pos 1)
 from-size v f p q =
     let e : mag (acc v) ≡ mag v = ap mag (acc-fits v f) in
-    let s = leading-top 40 (mag (acc v)) (omega arith) (omega arith) in
-    let j : ℕ = s .0 in
-    let low : 18 ≤ j = lt-of-not-le (λ (w : j ≤ 17). not-le-of-lt (s .3) (le-trans (pow-mono {i = suc j} {j = 18} (omega arith)) (omega arith))) in
-    let top : j < 36 = lt-of-not-le (λ (w : 36 ≤ j). not-le-of-lt q (le-trans (pow-mono {i = 36} {j = j} w) (omega (arith, s .2)))) in
-    rw (exp-top v j (s .2) (s .3), one-more j) (less j low (omega arith))
+    one-more (exp v) (exp-at-least v 36 (λ n. omega arith) (omega arith)) (exp-at-most v 18 (omega arith))
 
 module _ (kv : ℤ) (h : natAbs kv ≤ 32768) where
   abbrev R : ℕ

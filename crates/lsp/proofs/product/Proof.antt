@@ -7,10 +7,9 @@ use mir.Val.{SFits, toZ, ofZ}
 use mir.ValLaws.{toZ-ofZ}
 use Rattle.fixed.specs.Fixed as Fixed
 use Rattle.fixed.specs.Abs.{abs-mul-le}
-use Rattle.fixed.specs.Bounds.{abs-fold}
-use Rattle.fixed.specs.Machine.{back, widens, widened, sfits-abs}
+use Rattle.fixed.specs.Products.{abs-mul32x16}
+use Rattle.fixed.specs.Machine.{back, widens, widened, sfits-abs, abs-sfits}
 use Rattle.lsp.specs.Lsp as Lsp
-use Rattle.lsp.specs.Plain.{abs-mul32x16}
 use Rattle.lsp.proofs.product.Statement.{statement}
 use Rattle.lsp.proofs.product.Tie as tie
 
@@ -31,7 +30,7 @@ module _ (c : tie.After-mul32x16) where
   m-is = back w64 (c .mul32x16 .result) (c .mul32x16 .ok) ∙ simp (widened tt (c .before .fits .y), toZ-ofZ w16 _ (c .before .fits .l)) at (c .mul32x16 .ensures)
 
   fits : SFits w64 (m *ℤ pos 2)
-  fits = sfits-abs w64 _ (omega (arith, abs-mul-le m (pos 2) 549755813888 2 (abs-mul32x16 (c .before .args .y) (c .before .args .l)) (omega arith)))
+  fits = sfits-abs w64 _ (omega (arith, abs-mul-le m (pos 2) 2147483648 2 (abs-mul32x16 (c .before .args .y) (c .before .args .l) (abs-sfits w16 (c .before .args .l) (c .before .fits .l))) (omega arith)))
 
 mul-fold : tie.Need-mul-fold
 mul-fold c = rw (m-is c) (fits c)
