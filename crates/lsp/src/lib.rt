@@ -1,0 +1,291 @@
+// Line spectral conversions and interpolation.
+ghost use mathlib.Core.Path.{_≡_};
+ghost use mathlib.Core.List.{List};
+ghost use Prim.Native.Nat.{ℕ, _<_, _≤_};
+ghost use lib.IntN.{ℤ, pos};
+ghost use lib.Signed.{_≤ℤ_};
+ghost use lib.ListN.{length, getD};
+ghost use Rattle.fixed.specs.Fixed as Fixed;
+ghost use Rattle.lsp.specs.Lsp as Lsp;
+use fixed::acc;
+use fixed::fold;
+use fixed::hi;
+use fixed::low;
+use fixed::mul;
+use fixed::mul32x16;
+use fixed::normalised_reciprocal;
+use fixed::sat;
+use fixed::shift;
+use fixed::trunc32;
+
+// Where an LSF stands in the cosine table, in 256ths of an entry: 20861 in Q15, doubled, is 4/pi.
+fn position(lsf: i16) -> usize
+    requires { ⌜ pos 0 ≤ℤ lsf ⌝ }
+    ensures { λ r. ⌜ r ≡ Lsp.position lsf ⌝ }
+{
+    (lsf as usize) * 20861 * 2 / 65536
+}
+
+fn entry(p: usize) -> usize
+    ensures { λ r. ⌜ r ≡ Lsp.entry p ⌝ }
+{
+    let e = p / 256;
+    if 63 < e { 63 } else { e }
+}
+
+fn cosine(words: &[i16], lsf: i16) -> i16
+    requires { ⌜ length (now words) ≡ 5963 ⌝ ∗ ⌜ pos 0 ≤ℤ lsf ⌝ }
+    ensures { λ r. ⌜ r ≡ Lsp.cosine (now (words .entry)) lsf ⌝ }
+{
+    let p = position(lsf);
+    let e = entry(p);
+    let x = words[tables::COS + e];
+    let slope = words[tables::COS_SLOPE + e];
+    hi(fold((x as i64) * 65536, mul((p % 256 * 8) as i16, slope)))
+}
+
+// LSFs to LSPs, by table lookup with linear interpolation.
+pub fn lsf_to_lsp(words: &[i16], lsf: [i16; 10]) -> [i16; 10]
+    requires { ⌜ length (now words) ≡ 5963 ⌝ ∗ ⌜ ((k : ℕ) → k < 10 → pos 0 ≤ℤ getD lsf k (pos 0)) ⌝ }
+    ensures { λ r. ⌜ r ≡ Lsp.lsfToLsp (now (words .entry)) lsf ⌝ }
+{
+    let mut lsp = [0i16; 10];
+    for i in 0..10 {
+        lsp[i] = cosine(words, lsf[i]);
+    }
+    lsp
+}
+
+// A sum, stored in 32 bits.
+fn stored(v: i64) -> i32
+    ensures { λ r. ⌜ r ≡ Fixed.trunc32 v ⌝ }
+{
+    trunc32(v) as i32
+}
+
+fn negated(x: i16) -> i16
+    ensures { λ r. ⌜ r ≡ Lsp.negated x ⌝ }
+{
+    low(-(x as i64))
+}
+
+fn product(x: i32, y: i32, z: i32, l: i16) -> i32
+    ensures { λ r. ⌜ r ≡ Lsp.product x y z l ⌝ }
+{
+    stored(fold(fold(x as i64, mul32x16(y as i64, l) * 2), z as i64))
+}
+
+fn linear(x: i32, l: i16) -> i32
+    ensures { λ r. ⌜ r ≡ Lsp.linear x l ⌝ }
+{
+    stored(fold(x as i64, (l as i64) * 1024))
+}
+
+fn own(f: [i32; 6], i: usize, j: usize) -> i32
+    requires { ⌜ (2 ≤ j) × (j < 6) ⌝ }
+    ensures { λ r. ⌜ r ≡ Lsp.own i f j ⌝ }
+{
+    if i == j {
+        return f[j - 2];
+    }
+    f[j]
+}
+
+fn coefficient(f: [i32; 6], l: i16, i: usize, j: usize) -> i32
+    requires { ⌜ j < 6 ⌝ }
+    ensures { λ r. ⌜ r ≡ Lsp.coefficient l i f j ⌝ }
+{
+    if j == 0 {
+        return f[0];
+    }
+    if j == 1 {
+        return linear(f[1], l);
+    }
+    if i < j {
+        return f[j];
+    }
+    product(own(f, i, j), f[j - 1], f[j - 2], l)
+}
+
+fn next_polynomial(f: [i32; 6], l: i16, i: usize) -> [i32; 6]
+    ensures { λ r. ⌜ r ≡ Lsp.nextPolynomial l i f ⌝ }
+{
+    let mut next = [0i32; 6];
+    for j in 0..6 {
+        next[j] = coefficient(f, l, i, j);
+    }
+    next
+}
+
+// Here the negative is of 64 bits.
+fn first_polynomial(x: i16) -> [i32; 6]
+    ensures { λ r. ⌜ r ≡ Lsp.firstPolynomial x ⌝ }
+{
+    [16777216, stored(-((x as i64) * 1024)), 0, 0, 0, 0]
+}
+
+fn lsp_polynomial(lsp: [i16; 10], first: usize) -> [i32; 6]
+    requires { ⌜ first < 2 ⌝ }
+    ensures { λ r. ⌜ r ≡ Lsp.lspPolynomial lsp first ⌝ }
+{
+    let mut f = first_polynomial(lsp[first]);
+    for n in 0..4 {
+        let next = next_polynomial(f, negated(lsp[first + 2 * (n + 1)]), n + 2);
+        f = next;
+    }
+    f
+}
+
+fn plus(f: [i32; 6], i: usize) -> i32
+    requires { ⌜ (1 ≤ i) × (i < 6) ⌝ }
+    ensures { λ r. ⌜ r ≡ Lsp.plus f i ⌝ }
+{
+    stored(fold(f[i] as i64, f[i - 1] as i64))
+}
+
+fn minus(f: [i32; 6], i: usize) -> i32
+    requires { ⌜ (1 ≤ i) × (i < 6) ⌝ }
+    ensures { λ r. ⌜ r ≡ Lsp.minus f i ⌝ }
+{
+    stored(fold(f[i] as i64, -(f[i - 1] as i64)))
+}
+
+fn halved(sum: i64) -> i16
+    ensures { λ r. ⌜ r ≡ Lsp.halved sum ⌝ }
+{
+    hi(fold(shift(shift(sum, -1), 4), 32768))
+}
+
+fn front(p: i32, m: i32) -> i16
+    ensures { λ r. ⌜ r ≡ Lsp.front p m ⌝ }
+{
+    halved(fold(p as i64, m as i64))
+}
+
+fn back(p: i32, m: i32) -> i16
+    ensures { λ r. ⌜ r ≡ Lsp.back p m ⌝ }
+{
+    halved(fold(p as i64, -(m as i64)))
+}
+
+fn predictor(f: [i32; 6], g: [i32; 6], n: usize) -> i16
+    requires { ⌜ n < 11 ⌝ }
+    ensures { λ r. ⌜ r ≡ Lsp.predictor f g n ⌝ }
+{
+    if n == 0 {
+        return 4096;
+    }
+    if n < 6 {
+        return front(plus(f, n), minus(g, n));
+    }
+    back(plus(f, 11 - n), minus(g, 11 - n))
+}
+
+// LSPs to the predictor's direct form.
+pub fn lsp_to_lpc(lsp: [i16; 10]) -> [i16; 11]
+    ensures { λ r. ⌜ r ≡ Lsp.lspToLpc lsp ⌝ }
+{
+    let f = lsp_polynomial(lsp, 0);
+    let g = lsp_polynomial(lsp, 1);
+    let mut lpc = [0i16; 11];
+    for n in 0..11 {
+        lpc[n] = predictor(f, g, n);
+    }
+    lpc
+}
+
+fn midway(x: i16, y: i16) -> i16
+    ensures { λ r. ⌜ r ≡ Lsp.midway x y ⌝ }
+{
+    (((x as i64) + (y as i64)) >> 1) as i16
+}
+
+// The midpoint of two LSP sets.
+pub fn midpoint(first: [i16; 10], second: [i16; 10]) -> [i16; 10]
+    ensures { λ r. ⌜ r ≡ Lsp.midpoint first second ⌝ }
+{
+    let mut out = [0i16; 10];
+    for i in 0..10 {
+        out[i] = midway(first[i], second[i]);
+    }
+    out
+}
+
+pub struct Pair {
+    pub first: [i16; 11],
+    pub second: [i16; 11],
+}
+
+// The two LPC sets of a half frame: of the midpoint between the LSPs before and the present ones, and of the present ones.
+pub fn interpolate_pair(prev: [i16; 10], cur: [i16; 10]) -> Pair
+    ensures { λ r. ⌜ r ≡ Lsp.interpolatePair prev cur ⌝ }
+{
+    let first = lsp_to_lpc(midpoint(prev, cur));
+    let second = lsp_to_lpc(cur);
+    Pair { first, second }
+}
+
+// 1 - k^2 in Q30: zero or negative for a k of 4096 or more.
+fn residual(kv: i16) -> i64
+    ensures { λ r. ⌜ r ≡ Lsp.residual kv ⌝ }
+{
+    fold(1073741824, -shift(acc(mul(kv, kv)), 5))
+}
+
+fn difference(kv: i16, x: i16, y: i16) -> i64
+    ensures { λ r. ⌜ r ≡ Lsp.difference kv x y ⌝ }
+{
+    sat(fold((x as i64) * 65536, -shift(acc(mul(y, kv)), 3)))
+}
+
+fn updated(kv: i16, inverse: i16, scale: i32, x: i16, y: i16) -> i16
+    ensures { λ r. ⌜ r ≡ Lsp.updated kv inverse scale x y ⌝ }
+{
+    hi(shift(mul32x16(difference(kv, x, y), inverse), scale))
+}
+
+// Each number before top, by the one as far from the other end. Both are read from k, which the step leaves.
+fn update_all(k: [i16; 10], top: usize, kv: i16, inverse: i16, scale: i32) -> [i16; 10]
+    requires { ⌜ top < 10 ⌝ }
+    ensures { λ r. ⌜ r ≡ Lsp.updateAll top kv inverse scale k ⌝ }
+{
+    let mut out = k;
+    for n in 0..top {
+        out[n] = updated(kv, inverse, scale, k[n], k[top - 1 - n]);
+    }
+    out
+}
+
+// A step: the coefficient at top is peeled off, and the numbers before it are divided by its residual.
+// The exponent of that has 5 bits and a sign at most, so it is its own 5-bit field.
+fn step(k: [i16; 10], top: usize) -> [i16; 10]
+    requires { ⌜ top < 10 ⌝ }
+    ensures { λ r. ⌜ r ≡ Lsp.step top k ⌝ }
+{
+    let kv = k[top];
+    let r = normalised_reciprocal(residual(kv));
+    let inverse = hi(shift(r.quotient, -1));
+    update_all(k, top, kv, inverse, r.shift)
+}
+
+fn tail(lpc: [i16; 11]) -> [i16; 10]
+    ensures { λ r. ⌜ r ≡ Lsp.tail lpc ⌝ }
+{
+    let mut k = [0i16; 10];
+    for n in 0..10 {
+        k[n] = lpc[n + 1];
+    }
+    k
+}
+
+// LPC numbers to reflection coefficients, by the Levinson recursion backwards.
+pub fn reflection_coefficients(lpc: [i16; 11]) -> [i16; 10]
+    ensures { λ r. ⌜ r ≡ Lsp.reflectionCoefficients lpc ⌝ }
+{
+    let mut k = tail(lpc);
+    for n in 0..9 {
+        let next = step(k, 9 - n);
+        k = next;
+    }
+    k
+}
