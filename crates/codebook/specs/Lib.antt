@@ -1,0 +1,4 @@
+pub mod Codebook
+pub mod Checked
+pub mod Ranges
+pub mod Cases
