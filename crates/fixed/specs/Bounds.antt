@@ -1,14 +1,15 @@
 -- Bounds of what the operations give.
 use mathlib.Core.Path.{_≡_, refl}
 use mathlib.Core.Bool.{Bool, true, false, cond}
-use Prim.Native.Nat.{ℕ, zero, suc, _+_, _*_, _%_, _^_, _≤_, _<_}
+use Prim.Native.Nat.{ℕ, _*_, _≤_, _<_}
 use native.Mathlib.Omega.{arith}
 use lib.IntN.{ℤ, pos, negsuc, natAbs, _*ℤ_, _-ℤ_, _+ℤ_}
 use lib.Signed.{mag, shrZ, leZ, ltZ}
 use borrow.Author.Tests.{ltb-false}
 use mir.Syntax.{w16}
 use mir.Val.{SFits}
-use Rattle.fixed.specs.Fixed.{residue, wrap, clamp, acc, fold, sat, trunc32, low, hi, mul, mulUs, shift, restoringStep, restoringDivide, sizeReciprocal}
+use Rattle.sequence.specs.Repeated.{repeated-keeps}
+use Rattle.fixed.specs.Fixed.{residue, clamp, acc, fold, sat, trunc32, low, hi, mul, mulUs, shift, restoringStep, restoringDivide, sizeReciprocal}
 use Rattle.fixed.specs.Abs.{abs-mul-le, abs≤mag}
 use Rattle.fixed.specs.Wrap.{abs-wrap, residue-lt}
 use Rattle.fixed.specs.Machine.{abs-sfits}
@@ -79,8 +80,7 @@ abs-restoring-step num den = go (leZ (pos 0) (num -ℤ den *ℤ pos 32768))
 
 pub abs-restoring-divide : (num den : ℤ) (n : ℕ) → natAbs num ≤ 549755813888 → natAbs (restoringDivide num den n) ≤ 549755813888
 unfolding restoringDivide
-abs-restoring-divide num den zero h = h
-abs-restoring-divide num den (suc n) h = abs-restoring-step (restoringDivide num den n) den
+abs-restoring-divide num den n h = repeated-keeps (λ k x. restoringStep x den) (λ (x : ℤ). natAbs x ≤ 549755813888) (λ k x p. abs-restoring-step x den) n num h
 
 pub abs-size-reciprocal : (n : ℤ) → natAbs (sizeReciprocal n) ≤ 549755813888
 unfolding sizeReciprocal

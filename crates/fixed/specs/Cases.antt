@@ -1,10 +1,10 @@
 -- Document 01's marked cases 9, 10 and 14, and further values, computed.
 use mathlib.Core.Path.{_≡_, refl}
 use Prim.Native.Nat.{_^_, _-_, _*_}
-use lib.IntN.{ℤ, pos, negsuc}
+use lib.IntN.{pos, negsuc}
 use lib.Count.{leadingZeros}
-use lib.Signed.{shrZ}
-use Rattle.fixed.specs.Fixed.{residue, signed, wrap, clamp, acc, fold, sat, trunc32, low, hi, mul, mulUs, mul32x16, shift, exp, restoringStep, restoringDivide, sizeReciprocal, normalisedReciprocal}
+use Rattle.sequence.specs.Repeated.{repeated}
+use Rattle.fixed.specs.Fixed.{residue, signed, wrap, clamp, acc, fold, sat, trunc32, hi, mul32x16, shift, exp, restoringStep, restoringDivide, sizeReciprocal, normalisedReciprocal}
 
 -- 9: the accumulator wraps, at the top and below the bottom
 case-9 : acc (pos (2 ^ 39)) ≡ negsuc (2 ^ 39 - 1)
@@ -39,16 +39,16 @@ exp-wide = refl
 
 -- 14: the reciprocal of zero, in whose steps the accumulator wraps
 case-14 : hi (normalisedReciprocal (pos 0) .quotient) ≡ pos 32736
-unfolding normalisedReciprocal sizeReciprocal restoringDivide restoringStep clamp fold shift exp wrap signed residue leadingZeros
+unfolding normalisedReciprocal sizeReciprocal restoringDivide repeated restoringStep clamp fold shift exp wrap signed residue leadingZeros
 case-14 = refl
 
 case-14-shift : normalisedReciprocal (pos 0) .shift ≡ pos 1
 unfolding normalisedReciprocal exp wrap signed residue leadingZeros
 case-14-shift = refl
 
--- 16383 by -3, whose size normalised is 3 · 2 ^ 29: 16383 · 2 ^ 15 / 24576 is 21844, and -3 is 3 · 2 ^ 29 shifted down by 29
+-- of -3, which is normalised by 29 bits: the high half of 3 · 2 ^ 29 is 24576, and 16383 · 2 ^ 15 / 24576 is 21844
 reciprocal-minus-three : normalisedReciprocal (negsuc 2) ≡ record { quotient = negsuc (21844 * 65536 - 1); shift = pos 30 }
-unfolding normalisedReciprocal sizeReciprocal restoringDivide restoringStep clamp fold shift exp wrap signed residue leadingZeros
+unfolding normalisedReciprocal sizeReciprocal restoringDivide repeated restoringStep clamp fold shift exp wrap signed residue leadingZeros
 reciprocal-minus-three = refl
 
 -- only `sat` saturates
@@ -65,9 +65,9 @@ unfolding wrap signed residue
 trunc32-top = refl
 
 -- -3 / 2 is -2
-shift-down : shift (negsuc 2) (negsuc 0) ≡ negsuc 1
+rounds-down : shift (negsuc 2) (negsuc 0) ≡ negsuc 1
 unfolding shift wrap signed residue
-shift-down = refl
+rounds-down = refl
 
 -- of an amount of -64 the low six bits are 0
 shift-masked : shift (pos 5) (negsuc 63) ≡ pos 5
@@ -76,5 +76,10 @@ shift-masked = refl
 
 -- -1 by one half is -1
 half-of-minus-one : mul32x16 (negsuc 0) (pos 16384) ≡ negsuc 0
-unfolding mul32x16 fold mul mulUs wrap signed residue
+unfolding mul32x16 wrap signed residue
 half-of-minus-one = refl
+
+-- the largest product does not wrap: -2 ^ 31 by -1
+largest-product : mul32x16 (negsuc (2 ^ 31 - 1)) (negsuc (2 ^ 15 - 1)) ≡ pos (2 ^ 31)
+unfolding mul32x16 wrap signed residue
+largest-product = refl

@@ -1,10 +1,11 @@
 -- Fixed-point arithmetic on the integers: what each operation of a 16-bit machine with a 40-bit accumulator gives.
 use mathlib.Core.Bool.{cond}
-use Prim.Native.Nat.{ℕ, zero, suc, _+_, _-_, _%_, _^_}
+use Prim.Native.Nat.{ℕ, suc, _+_, _-_, _%_, _^_}
 use lib.IntN.{ℤ, pos, negsuc, negℤ, natAbs, _+ℤ_, _-ℤ_, _*ℤ_}
 use lib.Dec.{ltb, eqb}
 use lib.Count
 use lib.Signed.{mag, shrZ, ltZ, leZ}
+use Rattle.sequence.specs.Repeated.{repeated}
 use Rattle.fixed.specs.declared.Reciprocal.{Reciprocal}
 
 -- z modulo M: the number from 0 to M - 1 that differs from z by a multiple of M
@@ -54,9 +55,9 @@ mul x y = x *ℤ y *ℤ pos 2
 unfoldable pub mulUs : ℤ → ℤ → ℤ
 mulUs x y = pos (residue 65536 x) *ℤ y *ℤ pos 2
 
--- a 32-bit number by a 16-bit one, by halves
+-- the low 32 bits of x by a number y of 16 bits in Q15: their product over 2 ^ 15, rounded down
 unfoldable pub mul32x16 : ℤ → ℤ → ℤ
-mul32x16 x y = fold (shrZ (acc (mulUs (low x) y)) 65536) (mul (hi x) y)
+mul32x16 x y = shrZ (trunc32 x *ℤ y) 32768
 
 -- v times 2 ^ s, rounded down, as an accumulator; of the amount the machine sees the low six bits
 unfoldable pub shift : ℤ → ℤ → ℤ
@@ -74,9 +75,9 @@ restoringStep num den =
     let alu : ℤ = num -ℤ den *ℤ pos 32768 in
     cond (leZ (pos 0) alu) (fold (alu *ℤ pos 2) (pos 1)) (acc (num *ℤ pos 2))
 
+-- as many steps, one after the other
 unfoldable pub restoringDivide : ℤ → ℤ → ℕ → ℤ
-restoringDivide num den zero = num
-restoringDivide num den (suc n) = restoringStep (restoringDivide num den n) den
+restoringDivide num den n = repeated (λ k x. restoringStep x den) n num
 
 -- 16383 by the high half of n's size, in 15 steps: the quotient's low 16 bits, moved to the high half
 unfoldable pub sizeReciprocal : ℤ → ℤ

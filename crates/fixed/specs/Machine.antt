@@ -1,8 +1,8 @@
 -- What a local holds: bits, which are read as a number of its width. These laws take the reading away where the number fits, and say what the machine's shifts, masks and casts give.
 use mathlib.Core.Path.{_≡_, refl, sym, ap, _∙_}
 use mathlib.Core.Bool.{Bool, true, false, cond}
-use Prim.Native.Nat.{ℕ, zero, suc, _+_, _-_, _*_, _/_, _%_, _^_, _≤_, _<_}
-use native.Mathlib.Nat.{mod-lt, add-mul, mul-div-cancel, mul-lt-mul-of-pos-right, mul-le-mul-right, mul-comm, add-zero, mul-mod-left}
+use Prim.Native.Nat.{ℕ, suc, _+_, _-_, _*_, _/_, _%_, _^_, _≤_, _<_}
+use native.Mathlib.Nat.{add-mul, mul-div-cancel, mul-lt-mul-of-pos-right, mul-le-mul-right, mul-comm, add-zero, mul-mod-left}
 use native.Mathlib.Omega.{arith}
 use lib.Arith.{digits-div, mod-mul}
 use lib.Dec.{T, ltb, leb, leb→le}

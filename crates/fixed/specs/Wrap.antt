@@ -12,7 +12,7 @@ use lib.IntN.{ℤ, pos, negsuc, negℤ, natAbs, subℕ, _+ℤ_, _-ℤ_, _*ℤ_, 
 use lib.Signed.{mag}
 use borrow.Author.Tests.{lt-ltb, le-ltb, ltb-true, ltb-false}
 use Rattle.fixed.specs.Fixed.{residue, signed, wrap, acc}
-use Rattle.fixed.specs.Abs.{abs-add, abs-mul, abs-neg, mag≤abs}
+use Rattle.fixed.specs.Abs.{abs-add, abs-mul, mag≤abs}
 
 -- the complement of a number by its digits
 pub compl-digits : (Q M q r : ℕ) → q < Q → r < M → Q * M - suc (q * M + r) ≡ (Q - suc q) * M + (M - suc r)

@@ -1,8 +1,9 @@
+-- Each arm, by the sign; an accumulator can be negated.
 use native.Mathlib.Omega.{arith}
 use mathlib.Core.Bool.{true, false}
-use mathlib.Core.Path.{_≡_, refl, _∙_, ap, sym}
-use lib.IntN.{ℤ, pos, negsuc, negℤ, natAbs, _-ℤ_}
-use lib.Signed.{ltZ, mag}
+use mathlib.Core.Path.{_≡_, _∙_}
+use lib.IntN.{ℤ, pos, natAbs, _-ℤ_}
+use lib.Signed.{ltZ}
 use mir.Syntax.{w64}
 use mir.Val.{SFits, toZ, ofZ}
 use mir.ValLaws.{toZ-ofZ}

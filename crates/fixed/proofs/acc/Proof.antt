@@ -1,3 +1,4 @@
+-- Two shifts by 24 wrap 64 bits to 40.
 use mathlib.Core.Path.{refl}
 use mir.Syntax.{w64}
 use mir.ValLaws.{toZ-ofZ}

@@ -1,8 +1,8 @@
 -- The wraps of the two terms change nothing of the sum's wrap, and their sum has 41 bits.
 use borrow.Author.Needs.{needs}
 use native.Mathlib.Omega.{arith}
-use mathlib.Core.Path.{_≡_, _∙_, ap}
-use lib.IntN.{ℤ, natAbs, _+ℤ_}
+use mathlib.Core.Path.{_≡_, _∙_}
+use lib.IntN.{ℤ, _+ℤ_}
 use mir.Syntax.{w64}
 use mir.Val.{SFits, toZ, ofZ}
 use mir.ValLaws.{toZ-ofZ}

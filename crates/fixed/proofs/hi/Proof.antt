@@ -1,6 +1,7 @@
+-- A shift down keeps the range, and `low` does the rest.
 use borrow.Author.Needs.{needs}
 use mathlib.Core.Path.{_∙_}
-use mir.Syntax.{w64, w16}
+use mir.Syntax.{w64}
 use mir.ValLaws.{toZ-ofZ}
 use Rattle.fixed.specs.Machine.{shr-sfits}
 use Rattle.fixed.proofs.hi.Statement.{statement}

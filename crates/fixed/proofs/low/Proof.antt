@@ -1,3 +1,4 @@
+-- Two shifts by 48 wrap 64 bits to 16, which an i16 holds.
 use mathlib.Core.Path.{refl}
 use mir.Syntax.{w64, w16}
 use mir.ValLaws.{toZ-ofZ}

@@ -1,3 +1,4 @@
+-- The product of two 16-bit numbers has 31 bits, twice it 32.
 use native.Mathlib.Omega.{arith}
 use lib.IntN.{ℤ, pos, _*ℤ_, natAbs}
 use Prim.Native.Nat.{_≤_}

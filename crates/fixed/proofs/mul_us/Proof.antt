@@ -1,7 +1,8 @@
+-- The mask reads 16 bits without their sign; the product has 32 bits, twice it 33.
 use native.Mathlib.Omega.{arith}
 use mathlib.Core.Path.{refl, _≡_}
 use lib.IntN.{ℤ, pos, _*ℤ_, natAbs}
-use Prim.Native.Nat.{ℕ, _≤_, _<_}
+use Prim.Native.Nat.{_≤_}
 use mir.Syntax.{w16, w64}
 use mir.Val.{SFits, toZ, ofZ}
 use mir.ValLaws.{toZ-ofZ}

@@ -2,9 +2,8 @@
 use borrow.Author.Needs.{needs}
 use native.Mathlib.Omega.{arith}
 use mathlib.Core.Bool.{true, false}
-use mathlib.Core.Path.{_≡_, refl, _∙_, ap}
-use Prim.Native.Nat.{ℕ, _≤_, _<_}
-use lib.IntN.{ℤ, pos, negℤ, natAbs, _-ℤ_, _+ℤ_}
+use mathlib.Core.Path.{_≡_, _∙_, ap}
+use lib.IntN.{ℤ, pos, negℤ, _+ℤ_}
 use lib.Signed.{ltZ}
 use mir.Syntax.{w16, w32, w64}
 use mir.Val.{SFits, toZ, ofZ}

@@ -1,11 +1,13 @@
+-- The loop holds the division after as many steps, which is an accumulator.
 use native.Mathlib.Omega.{arith}
 use native.Mathlib.Numerals.{add-one}
-use mathlib.Core.Path.{_≡_, refl, _∙_, ap, sym}
+use mathlib.Core.Path.{_≡_, _∙_, ap, sym}
 use lib.IntN.{ℤ, natAbs}
-use Prim.Native.Nat.{ℕ, suc, _≤_, _<_, _+_, _-_}
+use Prim.Native.Nat.{_≤_, _-_}
 use mir.Syntax.{w16, w64}
-use mir.Val.{SFits, toZ, ofZ}
+use mir.Val.{toZ, ofZ}
 use mir.ValLaws.{toZ-ofZ}
+use Rattle.sequence.specs.Repeated.{repeated}
 use Rattle.fixed.specs.Fixed as Fixed
 use Rattle.fixed.specs.Machine.{sfits-abs}
 use Rattle.fixed.specs.Bounds.{abs-restoring-divide}
@@ -36,7 +38,7 @@ module _ (c : tie.At-loop Inv-loop μ-loop) where
   n-back = ap (toZ w64) (simp (num-back, den-back) at (c .loop .inv .1)) ∙ toZ-ofZ w64 D (sfits-abs w64 D (omega (arith, D-le)))
 
 loop-holds : tie.Need-loop-holds Inv-loop μ-loop
-unfolding Fixed.restoringDivide
+unfolding Fixed.restoringDivide repeated
 loop-holds c = (omega arith, ap (ofZ w64) (sym (toZ-ofZ w64 _ (c .fits .num))))
 
 restoring-step-requires : tie.Need-restoring-step-requires Inv-loop μ-loop
@@ -49,7 +51,7 @@ loop-less : tie.Need-loop-less Inv-loop μ-loop
 loop-less c = omega arith
 
 loop-again : tie.Need-loop-again Inv-loop μ-loop
-unfolding Fixed.restoringDivide
+unfolding Fixed.restoringDivide repeated
 loop-again c =
     let l = c .before .before in
     (omega arith, simp (num-back l, den-back l, add-one (l .loop .k)) (ap (ofZ w64) (simp (n-back l, den-back l) at (c .restoring-step .ensures))))

@@ -8,7 +8,7 @@ use mathlib.Core.Path.{_≡_, refl, _∙_, ap, sym}
 use lib.Bits.{bitAnd, and-mask}
 use lib.IntN.{ℤ, pos, negsuc, _-ℤ_, _*ℤ_, natAbs}
 use lib.Signed.{shrZ, leZ}
-use Prim.Native.Nat.{ℕ, suc, _≤_, _<_, _*_, _%_, _^_}
+use Prim.Native.Nat.{ℕ, suc, _<_, _*_, _%_, _^_}
 use mir.Syntax.{w32, w64}
 use mir.Val.{SFits, toZ, ofZ}
 use mir.ValLaws.{toZ-ofZ}

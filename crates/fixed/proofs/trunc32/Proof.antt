@@ -1,3 +1,4 @@
+-- Two shifts by 32 wrap 64 bits to 32.
 use mathlib.Core.Path.{refl}
 use mir.Syntax.{w64}
 use mir.ValLaws.{toZ-ofZ}

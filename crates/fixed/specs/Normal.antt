@@ -1,0 +1,91 @@
+-- `exp` is the shift that normalises: an accumulator but 0, shifted by it, has its highest digit at bit 30. So the reciprocal divides by 16384 or more.
+use native.Mathlib.Omega.{arith}
+use mathlib.Core.Bool.{Bool, true, false, cond}
+use mathlib.Core.Path.{_≡_, refl, ap, sym, _∙_}
+use Prim.Native.Nat.{ℕ, zero, suc, _+_, _-_, _*_, _/_, _^_, _≤_, _<_, min}
+use native.Mathlib.Nat.{mul-le-mul-right, mul-lt-mul-of-pos-right, suc-mul, mul-right-comm, pow-suc, le-div-iff-mul-le, div-lt-iff-lt-mul}
+use lib.Pow.{pow-pos, pow-add, pow-mono}
+use lib.Dec.{ltb}
+use lib.IntN.{ℤ, pos, negsuc, negℤ, subℕ, natAbs, _*ℤ_}
+use lib.Signed.{mag, shrZ}
+use borrow.Author.Tests.{ltb-true, ltb-false}
+use Rattle.fixed.specs.Fixed.{residue, clamp, acc, sat, shift, exp, restoringDivide, sizeReciprocal}
+use Rattle.fixed.specs.Integers.{sub-is, sub-above, sub-below}
+use Rattle.fixed.specs.Abs.{mag≤abs, mag-shr-is}
+use Rattle.fixed.specs.Wrap.{wrap-id, acc-fits}
+use Rattle.fixed.specs.Shifts.{shift-up, shift-down, exp-top}
+use Rattle.fixed.specs.Division.{reciprocal-bits}
+
+-- a bound from below and one from above are multiplied by k, where z is
+mag-minus : (x : ℕ) → mag (negℤ (pos x)) ≡ x - 1
+mag-minus zero = refl
+mag-minus (suc x) = omega arith
+
+up-from : (z : ℤ) (m k : ℕ) → 0 < k → m ≤ mag z → m * k ≤ mag (z *ℤ pos k)
+up-from (pos n) m k p h = mul-le-mul-right k h
+up-from (negsuc n) m k p h = omega (arith, mul-le-mul-right k h, suc-mul n k, mag-minus (suc n * k))
+
+up-below : (z : ℤ) (m k : ℕ) → 0 < k → mag z < m → mag (z *ℤ pos k) < m * k
+up-below (pos n) m k p h = mul-lt-mul-of-pos-right h p
+up-below (negsuc n) m k p h = omega (arith, mul-le-mul-right k h, suc-mul n k, mag-minus (suc n * k))
+
+-- 2 ^ t is v's highest digit
+module _ (v : ℤ) (t : ℕ) (b : t < 39) (l : 2 ^ t ≤ mag v) (h : mag v < 2 ^ suc t) where
+  abbrev n : ℤ
+  n = shift v (exp v)
+
+  held : acc v ≡ v
+  held = wrap-id 39 v (omega (arith, pow-mono {i = suc t} {j = 39} b))
+
+  exp-is : exp v ≡ subℕ 30 t
+  exp-is = exp-top v t (rw held l) (rw held h) ∙ sub-is 30 t
+
+  up : t ≤ 30 → (1073741824 ≤ mag n) × (mag n < 2147483648)
+  up k =
+      let s : ℕ = 30 - t in
+      let e : t + s ≡ 30 = omega arith in
+      let p : 2 ^ t * 2 ^ s ≡ 1073741824 = sym (pow-add 2 t s) ∙ ap (λ (x : ℕ). 2 ^ x) e in
+      let q : 2 ^ suc t * 2 ^ s ≡ 2147483648 = ap (λ (x : ℕ). x * 2 ^ s) (pow-suc 2 t) ∙ mul-right-comm (2 ^ t) 2 (2 ^ s) ∙ ap (λ (x : ℕ). x * 2) p in
+      let g : mag (v *ℤ pos (2 ^ s)) < 2147483648 = omega (arith, up-below v (2 ^ suc t) (2 ^ s) (pow-pos s) h) in
+      let f : n ≡ v *ℤ pos (2 ^ s) = ap (shift v) (exp-is ∙ sub-above 30 t k) ∙ shift-up v s (omega arith) ∙ wrap-id 39 (v *ℤ pos (2 ^ s)) (omega arith) in
+      rw f (omega (arith, up-from v (2 ^ t) (2 ^ s) (pow-pos s) l), g)
+
+  down : 30 < t → (1073741824 ≤ mag n) × (mag n < 2147483648)
+  down k =
+      let s : ℕ = t - 31 in
+      let d : ℕ = 2 ^ suc s in
+      let e : 30 + suc s ≡ t = omega arith in
+      let g : 31 + suc s ≡ suc t = omega arith in
+      let p : 1073741824 * d ≡ 2 ^ t = sym (pow-add 2 30 (suc s)) ∙ ap (λ (x : ℕ). 2 ^ x) e in
+      let q : 2147483648 * d ≡ 2 ^ suc t = sym (pow-add 2 31 (suc s)) ∙ ap (λ (x : ℕ). 2 ^ x) g in
+      let above : 1073741824 ≤ mag v / d = le-div-iff-mul-le (pow-pos (suc s)) .1 (omega arith) in
+      let under : mag v / d < 2147483648 = div-lt-iff-lt-mul (pow-pos (suc s)) .1 (omega arith) in
+      let f : n ≡ shrZ v d = ap (shift v) (exp-is ∙ sub-below 30 t k) ∙ shift-down v s (omega arith) ∙ wrap-id 39 (shrZ v d) (omega (arith, mag-shr-is v d)) in
+      rw (f, mag-shr-is v d) (above, under)
+
+  pub normal : (1073741824 ≤ mag n) × (mag n < 2147483648)
+  normal = go (ltb 30 t) refl
+    where
+      go : (x : Bool) → ltb 30 t ≡ x → (1073741824 ≤ mag n) × (mag n < 2147483648)
+      go true x = down (ltb-true 30 t x)
+      go false x = up (ltb-false 30 t x)
+
+-- ---- the reciprocal of a normalised number: 16383 · 2 ^ 15 by the high half of its size, in the high half
+sat-size : (x : ℕ) → sat (pos x) ≡ pos (min x 2147483647)
+unfolding clamp
+sat-size x = go (ltb 2147483647 x) refl
+  where
+    go : (t : Bool) → ltb 2147483647 x ≡ t → cond t (pos 2147483647) (pos x) ≡ pos (min x 2147483647)
+    go true t = ap pos (omega (arith, ltb-true 2147483647 x t))
+    go false t = ap pos (omega (arith, ltb-false 2147483647 x t))
+
+pub reciprocal-is : (n : ℤ) → 1073741824 ≤ mag n → mag n < 2147483648 → sizeReciprocal n ≡ pos (536838144 / (min (natAbs n) 2147483647 / 65536) * 65536)
+unfolding sizeReciprocal
+reciprocal-is n l h =
+    let m : ℕ = min (natAbs n) 2147483647 / 65536 in
+    let p : 16384 ≤ m = omega (arith, mag≤abs n) in
+    let q : m < 32768 = omega arith in
+    let g : 536838144 / m < 32768 = div-lt-iff-lt-mul {k = m} (omega arith) .1 (omega arith) in
+    ap (λ (z : ℤ). acc (pos (residue 65536 (restoringDivide (pos 1073676288) (shrZ z 65536) 15)) *ℤ pos 65536)) (sat-size (natAbs n))
+    ∙ ap (λ (x : ℕ). acc (pos (x * 65536))) (reciprocal-bits m p q)
+    ∙ acc-fits (pos (536838144 / m * 65536)) (omega arith)
