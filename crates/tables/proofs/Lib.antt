@@ -1,1 +1,2 @@
 mod Flipped
+mod Rules

@@ -1,7 +1,7 @@
 -- The test is made of the word that was read.
 use mathlib.Core.Path.{ap, _∙_}
 use mathlib.Core.Bool.{not}
-use lib.IntN.{ℤ, pos, negsuc}
+use lib.IntN.{pos}
 use mir.Syntax.{w16}
 use mir.Facts.{toZ-ofZ}
 use borrow.Author.Needs.{needs, sfits-of}

@@ -1,11 +1,11 @@
 -- Either the word is not negative, and is its bits, or -1 - x is its bits' complement (proofs/Flipped).
-use Prim.Native.Nat.{ℕ, _-_}
+use Prim.Native.Nat.{_-_}
 use mathlib.Core.Path.{_≡_}
 use native.Mathlib.Omega.{arith}
 use lib.IntN.{pos, negsuc, _-ℤ_}
 use mir.Syntax.{w16}
 use mir.Val.{toZ, ofZ}
-use mir.Facts.{toZ-ofZ, fits-ofZ}
+use mir.Facts.{toZ-ofZ}
 use borrow.Author.Needs.{sfits-of}
 use Rattle.tables.specs.Tables as Tables
 use Rattle.tables.proofs.Flipped.{Flipped, flipped, kept, low}

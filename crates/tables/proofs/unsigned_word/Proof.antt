@@ -1,6 +1,6 @@
 -- `unsigned` of the word that was read.
 use mathlib.Core.Path.{ap, _∙_}
-use lib.IntN.{ℤ, pos}
+use lib.IntN.{pos}
 use lib.ListN.{getD}
 use denote.Ref.{now}
 use mir.Syntax.{w16}
