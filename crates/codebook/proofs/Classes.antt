@@ -9,7 +9,7 @@ use lib.IntN.{ℤ}
 use borrow.Author.Tests.{le-leb, lt-leb}
 use Rattle.sequence.specs.First.{first, firstFrom, first-more, first-found}
 use Rattle.tables.specs.Tables.{base}
-use Rattle.codebook.specs.Checked.{Checked, base-least}
+use Rattle.codebook.specs.Sound.{SoundWords}
 use Rattle.codebook.specs.Codebook.{class}
 
 module _ (words : List ℤ) (index : ℕ) where
@@ -39,6 +39,6 @@ module _ (words : List ℤ) (index : ℕ) where
       sym (ap (λ (n : ℕ). 5 - n) q ∙ e)
 
 -- class 0 is always reached
-pub not-lowest : (words : List ℤ) (index k : ℕ) → Checked words → index < base words k → 1 ≤ k
-not-lowest words index zero c h = absurd (omega (arith, base-least words c))
+pub not-lowest : (words : List ℤ) (index k : ℕ) → SoundWords words → index < base words k → 1 ≤ k
+not-lowest words index zero c h = absurd (omega (arith, c .base-zero))
 not-lowest words index (suc k) c h = omega arith

@@ -3,15 +3,14 @@ use Prim.Native.Nat.{ℕ, zero, suc, _+_, _-_, _/_, _^_, _≤_, _<_}
 use mathlib.Core.Path.{_≡_, refl, sym, ap, _∙_}
 use mathlib.Core.List.{List, [], _∷_}
 use mathlib.Core.Bool.{cond}
-use native.Mathlib.Numerals.{add-one}
 use native.Mathlib.Omega.{arith}
 use lib.Dec.{ltb}
 use lib.IntN.{ℤ, pos}
 use lib.ListN.{length, getD, drop, set, length-set}
 use lib.Seq.{drop-cons, drop-set-lt, getD-set-same}
-use borrow.Author.Tests.{lt-ltb}
-use Rattle.sequence.specs.Repeated.{repeated, repeated-none, repeated-again}
-use Rattle.sequence.specs.Table.{table, length-table, getD-table}
+use Rattle.sequence.specs.Repeated.{repeated-none, repeated-again}
+use Rattle.sequence.specs.Table.{table, length-table}
+use Rattle.codebook.specs.Ranges.{decompose-at}
 use Rattle.codebook.specs.Codebook.{pulses, quotient, remainder, above, digit, decompose}
 
 -- a list whose end from suc j on is t's, with t's element put at j
@@ -56,8 +55,7 @@ module _ (words : List ℤ) (class rest : ℕ) where
       let a : (n - k) + 1 ≡ n - j = omega arith in
       let b : n - suc (n - k) ≡ j = omega arith in
       let z = length-table (λ q. cond (ltb q n) (digit words class rest q) (pos 0)) 3 in
-      let d : getD t j (pos 0) ≡ digit words class rest j =
-      getD-table (λ q. cond (ltb q n) (digit words class rest q) (pos 0)) 3 j (pos 0) (omega arith) ∙ simp (lt-ltb j n (omega arith)) in
+      let d : getD t j (pos 0) ≡ digit words class rest j = decompose-at words class rest j (omega arith) (omega arith) in
       let w : v ≡ getD t j (pos 0) = e ∙ ap (remainder words class j) (i .2 ∙ ap (above words class rest) (sym m)) ∙ sym d in
       let u : y ≡ above words class rest (n - j) =
       rw a at (repeated-again (λ q. quotient words class (n - suc q)) (n - k) (pos (rest / 2 ^ n)) (i .2) (f ∙ ap (λ (q : ℕ). quotient words class q x) (sym b))) in

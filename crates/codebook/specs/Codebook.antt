@@ -11,9 +11,8 @@ use Rattle.sequence.specs.Repeated.{repeated}
 use Rattle.sequence.specs.Rewritten.{rewritten}
 use Rattle.sequence.specs.Table.{table}
 use Rattle.fixed.specs.Fixed.{wrap}
-use Rattle.tables.specs.Places.{FCB-RADIX, FCB-RADIX-INV, FCB-SHAPES, FCB-ALT-A, FCB-ALT-B}
-use Rattle.tables.specs.Tables.{word, limit, base, selector, position, between}
-use Rattle.tables.specs.Tables as Tables
+use Rattle.tables.specs.Places.{FCB-PULSES, FCB-SHAPE-SEL, FCB-RADIX, FCB-RADIX-INV, FCB-POSITIONS, FCB-SHAPES, FCB-ALT-A, FCB-ALT-B}
+use Rattle.tables.specs.Tables.{word, unsignedWord, limit, base, between}
 use Rattle.codebook.specs.declared.Classified.{Classified}
 use Rattle.codebook.specs.declared.Innovation.{Innovation}
 
@@ -35,7 +34,7 @@ classify words index =
 -- ---- classes 0 to 4: what is left of the index is a sign for each pulse, lowest bit first, and above them a number in mixed radix, whose digits are the pulses'
 -- how many pulses a class has
 abbrev pub pulses : List ℤ → ℕ → ℕ
-pulses words class = mag (Tables.pulses words class)
+pulses words class = unsignedWord words (FCB-PULSES + class)
 
 -- whether pulse k is added, and not subtracted
 unfoldable pub added : ℕ → ℕ → Bool
@@ -83,7 +82,7 @@ placeShape words shape start add code = rewritten (shaped words shape start add)
 -- pulse k takes the class's k-th shape, and its digit chooses among its 40 positions
 unfoldable pub placeSlot : List ℤ → ℕ → ℕ → ℤ → Bool → List ℤ → List ℤ
 placeSlot words class k slot add code =
-    placeShape words (mag (selector words class) + k) (mag (position words (40 * (3 * class + k) + mag slot))) add code
+    placeShape words (unsignedWord words (FCB-SHAPE-SEL + 3 * class) + k) (unsignedWord words (FCB-POSITIONS + (40 * (3 * class + k) + mag slot))) add code
 
 abbrev pub placePosition : List ℤ → ℕ → List ℤ → ℕ → ℕ → List ℤ → List ℤ
 placePosition words class positions rest k code = placeSlot words class k (getD positions k (pos 0)) (added rest k) code

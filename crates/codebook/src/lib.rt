@@ -1,12 +1,10 @@
 // The fixed codebook: the innovation that an index selects.
 ghost use mathlib.Core.Path.{_≡_};
 ghost use mathlib.Core.Bool.{true};
-ghost use Prim.Native.Nat.{_+_, _-_, _*_, _≤_, _<_, min};
+ghost use Prim.Native.Nat.{_+_, _-_, _≤_, _<_, min};
 ghost use lib.ListN.{length};
-ghost use lib.IntN.{ℤ, pos, natAbs};
-ghost use lib.Signed.{mag};
-ghost use Rattle.tables.specs.Tables as Tables;
-ghost use Rattle.codebook.specs.Checked.{Checked};
+ghost use lib.IntN.{natAbs};
+ghost use Rattle.codebook.specs.Sound.{SoundWords};
 ghost use Rattle.codebook.specs.Codebook as Codebook;
 use tables::FCB_ALT_A;
 use tables::FCB_ALT_B;
@@ -21,9 +19,27 @@ use tables::FCB_SHAPES;
 use tables::unsigned_word;
 use tables::word;
 
+// The class of the twin five-pulse book, which is the highest.
+const ALT_CLASS: usize = 5;
+
+// Pulses of a half of that book, and the size of each, in Q15.
+const ALT_PULSES: usize = 5;
+
+const ALT_AMPLITUDE: i16 = 8192;
+
+// Samples of a shape, positions of a pulse, and the most pulses that a class has.
+const SHAPE_LEN: usize = 20;
+
+const POSITIONS: usize = 40;
+
+const MAX_PULSES: usize = 3;
+
+// Samples of an innovation.
+const SUBFRAME: usize = 80;
+
 // An innovation, and the class that it came from.
 pub struct Innovation {
-    pub code: [i16; 80],
+    pub code: [i16; SUBFRAME],
     pub class: usize,
 }
 
@@ -34,7 +50,7 @@ pub struct Classified {
 }
 
 fn cut(words: &[i16], index: u16) -> u16
-    requires { ⌜ Checked (now words) ⌝ }
+    requires { ⌜ SoundWords (now words) ⌝ }
     ensures { λ r. ⌜ r ≡ Codebook.cut (now (words .entry)) index ⌝ }
 {
     let last = unsigned_word(words, FCB_INDEX_LIMIT) - 1;
@@ -43,21 +59,20 @@ fn cut(words: &[i16], index: u16) -> u16
 
 // A cut index's class.
 fn class_of(words: &[i16], index: u16) -> usize
-    requires { ⌜ Checked (now words) ⌝ }
+    requires { ⌜ SoundWords (now words) ⌝ }
     ensures { λ r. ⌜ r ≡ Codebook.class (now (words .entry)) index ⌝ }
 {
-    let mut k = 5;
-    let class = loop {
+    let mut k = ALT_CLASS;
+    loop {
         if unsigned_word(words, FCB_CLASS_BASE + k) <= index {
             break k;
         }
         k -= 1;
-    };
-    class
+    }
 }
 
 fn classify(words: &[i16], index: u16) -> Classified
-    requires { ⌜ Checked (now words) ⌝ }
+    requires { ⌜ SoundWords (now words) ⌝ }
     ensures { λ r. ⌜ r ≡ Codebook.classify (now (words .entry)) index ⌝ }
 {
     let i = cut(words, index);
@@ -73,7 +88,7 @@ fn quotient(words: &[i16], class: usize, k: usize, x: i16) -> i16
     requires { ⌜ length (now words) ≡ 5963 ⌝ ∗ ⌜ class < 5 ⌝ ∗ ⌜ k < 3 ⌝ }
     ensures { λ r. ⌜ r ≡ Codebook.quotient (now (words .entry)) class k x ⌝ }
 {
-    let y = word(words, FCB_RADIX_INV + 3 * class + k);
+    let y = word(words, FCB_RADIX_INV + MAX_PULSES * class + k);
     (((x as i64) * (y as i64)) >> 17) as i16
 }
 
@@ -83,33 +98,25 @@ fn remainder(words: &[i16], class: usize, k: usize, x: i16) -> i16
     ensures { λ r. ⌜ r ≡ Codebook.remainder (now (words .entry)) class k x ⌝ }
 {
     let q = quotient(words, class, k, x);
-    let y = word(words, FCB_RADIX + 3 * class + k);
+    let y = word(words, FCB_RADIX + MAX_PULSES * class + k);
     fixed::low((x as i64) - (q as i64) * (y as i64))
 }
 
-// A word that is not negative, as an index.
-fn natural(words: &[i16], at: usize) -> usize
-    requires { ⌜ at < length (now words) ⌝ ∗ ⌜ Tables.word (now words) at ≡ pos (mag (Tables.word (now words) at)) ⌝ }
-    ensures { λ r. ⌜ r ≡ mag (Tables.word (now (words .entry)) at) ⌝ }
-{
-    word(words, at) as usize
-}
-
 fn pulses(words: &[i16], class: usize) -> usize
-    requires { ⌜ Checked (now words) ⌝ ∗ ⌜ class < 5 ⌝ }
+    requires { ⌜ length (now words) ≡ 5963 ⌝ ∗ ⌜ class < 5 ⌝ }
     ensures { λ r. ⌜ r ≡ Codebook.pulses (now (words .entry)) class ⌝ }
 {
-    natural(words, FCB_PULSES + class)
+    unsigned_word(words, FCB_PULSES + class) as usize
 }
 
 // The position digits of the pulses, the last pulse's first.
-fn decompose(words: &[i16], class: usize, rest: u16) -> [i16; 3]
-    requires { ⌜ Checked (now words) ⌝ ∗ ⌜ class < 5 ⌝ }
+fn decompose(words: &[i16], class: usize, rest: u16) -> [i16; MAX_PULSES]
+    requires { ⌜ SoundWords (now words) ⌝ ∗ ⌜ class < 5 ⌝ }
     ensures { λ r. ⌜ r ≡ Codebook.decompose (now (words .entry)) class rest ⌝ }
 {
     let mut k = pulses(words, class);
     let mut x = (rest >> k) as i16;
-    let mut positions = [0i16; 3];
+    let mut positions = [0i16; MAX_PULSES];
     while 0 < k {
         k -= 1;
         let p = remainder(words, class, k, x);
@@ -133,16 +140,16 @@ fn sum(add: bool, x: i16, y: i16) -> i16
 fn span(start: usize) -> usize
     ensures { λ r. ⌜ r ≡ min 20 (80 - start) ⌝ }
 {
-    if start < 60 {
-        return 20;
+    if start < SUBFRAME - SHAPE_LEN {
+        return SHAPE_LEN;
     }
-    if start < 80 {
-        return 80 - start;
+    if start < SUBFRAME {
+        return SUBFRAME - start;
     }
     0
 }
 
-fn place_shape(words: &[i16], shape: usize, start: usize, add: bool, code: &mut [i16; 80])
+fn place_shape(words: &[i16], shape: usize, start: usize, add: bool, code: &mut [i16; SUBFRAME])
     requires { ⌜ length (now words) ≡ 5963 ⌝ ∗ ⌜ shape < 32 ⌝ }
     ensures { λ _. ⌜ now (code .exit) ≡ Codebook.placeShape (now (words .entry)) shape start add (now (code .entry)) ⌝ }
 {
@@ -151,7 +158,7 @@ fn place_shape(words: &[i16], shape: usize, start: usize, add: bool, code: &mut 
         let y = sum(
             add,
             code[start + n],
-            word(words, FCB_SHAPES + 20 * shape + n),
+            word(words, FCB_SHAPES + SHAPE_LEN * shape + n),
         );
         code[start + n] = y;
     }
@@ -166,20 +173,31 @@ fn added(rest: u16, k: usize) -> bool
 }
 
 // Pulse k, whose digit is slot.
-fn place_slot(words: &[i16], class: usize, k: usize, slot: i16, add: bool, code: &mut [i16; 80])
-    requires { ⌜ Checked (now words) ⌝ ∗ ⌜ class < 5 ⌝ ∗ ⌜ k < 3 ⌝ ∗ ⌜ Codebook.slotFits slot ≡ true ⌝ }
+fn place_slot(
+    words: &[i16],
+    class: usize,
+    k: usize,
+    slot: i16,
+    add: bool,
+    code: &mut [i16; SUBFRAME],
+)
+    requires { ⌜ SoundWords (now words) ⌝ ∗ ⌜ class < 5 ⌝ ∗ ⌜ k < 3 ⌝ ∗ ⌜ Codebook.slotFits slot ≡ true ⌝ }
     ensures { λ _. ⌜ now (code .exit) ≡ Codebook.placeSlot (now (words .entry)) class k slot add (now (code .entry)) ⌝ }
 {
-    let start = natural(
-        words,
-        FCB_POSITIONS + (40 * (3 * class + k) + (slot as usize)),
-    );
-    let shape = natural(words, FCB_SHAPE_SEL + 3 * class) + k;
+    let at = POSITIONS * (MAX_PULSES * class + k) + (slot as usize);
+    let start = unsigned_word(words, FCB_POSITIONS + at) as usize;
+    let shape = (unsigned_word(words, FCB_SHAPE_SEL + MAX_PULSES * class) as usize) + k;
     place_shape(words, shape, start, add, code);
 }
 
-fn place_shapes(words: &[i16], class: usize, positions: [i16; 3], rest: u16, code: &mut [i16; 80])
-    requires { ⌜ Checked (now words) ⌝ ∗ ⌜ class < 5 ⌝ ∗ ⌜ Codebook.slotsFit positions ≡ true ⌝ }
+fn place_shapes(
+    words: &[i16],
+    class: usize,
+    positions: [i16; MAX_PULSES],
+    rest: u16,
+    code: &mut [i16; SUBFRAME],
+)
+    requires { ⌜ SoundWords (now words) ⌝ ∗ ⌜ class < 5 ⌝ ∗ ⌜ Codebook.slotsFit positions ≡ true ⌝ }
     ensures { λ _. ⌜ now (code .exit) ≡ Codebook.placeShapes (now (words .entry)) class positions rest (now (code .entry)) ⌝ }
 {
     let n = pulses(words, class);
@@ -202,41 +220,42 @@ fn place_of(entry: i16) -> usize
     }
 }
 
-fn place_pulse(entry: i16, code: &mut [i16; 80])
+fn place_pulse(entry: i16, code: &mut [i16; SUBFRAME])
     requires { ⌜ 1 ≤ natAbs entry ⌝ ∗ ⌜ natAbs entry ≤ 80 ⌝ }
     ensures { λ _. ⌜ now (code .exit) ≡ Codebook.placePulse entry (now (code .entry)) ⌝ }
 {
     let at = place_of(entry);
-    let y = sum(0 < entry, code[at], 8192);
+    let y = sum(0 < entry, code[at], ALT_AMPLITUDE);
     code[at] = y;
 }
 
-fn place_pulses(words: &[i16], row: usize, code: &mut [i16; 80])
-    requires { ⌜ Checked (now words) ⌝ ∗ ⌜ 1483 ≤ row ⌝ ∗ ⌜ row + 5 ≤ 4683 ⌝ }
+fn place_pulses(words: &[i16], row: usize, code: &mut [i16; SUBFRAME])
+    requires { ⌜ SoundWords (now words) ⌝ ∗ ⌜ 1483 ≤ row ⌝ ∗ ⌜ row + 5 ≤ 4683 ⌝ }
     ensures { λ _. ⌜ now (code .exit) ≡ Codebook.placePulses (now (words .entry)) row (now (code .entry)) ⌝ }
 {
-    for k in 0..5 {
+    for k in 0..ALT_PULSES {
         place_pulse(word(words, row + k), code);
     }
 }
 
 // The twin five-pulse book.
-fn alternative(words: &[i16], rest: u16, code: &mut [i16; 80])
-    requires { ⌜ Checked (now words) ⌝ }
+fn alternative(words: &[i16], rest: u16, code: &mut [i16; SUBFRAME])
+    requires { ⌜ SoundWords (now words) ⌝ }
     ensures { λ _. ⌜ now (code .exit) ≡ Codebook.alternative (now (words .entry)) rest (now (code .entry)) ⌝ }
 {
     let r = rest as usize;
-    place_pulses(words, FCB_ALT_A + 5 * (r / 128), code);
-    place_pulses(words, FCB_ALT_B + 5 * (r % 128), code);
+    place_pulses(words, FCB_ALT_A + ALT_PULSES * (r / 128), code);
+    place_pulses(words, FCB_ALT_B + ALT_PULSES * (r % 128), code);
 }
 
+// Whether a digit is one of a pulse's 40 positions.
 fn slot_fits(slot: i16) -> bool
     ensures { λ r. ⌜ r ≡ Codebook.slotFits slot ⌝ }
 {
     if 0 <= slot { slot <= 39 } else { false }
 }
 
-fn slots_fit(positions: [i16; 3]) -> bool
+fn slots_fit(positions: [i16; MAX_PULSES]) -> bool
     ensures { λ r. ⌜ r ≡ Codebook.slotsFit positions ⌝ }
 {
     if !slot_fits(positions[0]) {
@@ -250,26 +269,26 @@ fn slots_fit(positions: [i16; 3]) -> bool
 
 // Whether refusal 7 has nothing against an index.
 pub fn digits_fit(words: &[i16], index: u16) -> bool
-    requires { ⌜ Checked (now words) ⌝ }
+    requires { ⌜ SoundWords (now words) ⌝ }
     ensures { λ r. ⌜ r ≡ Codebook.digitsFit (now (words .entry)) index ⌝ }
 {
     let c = classify(words, index);
     let class = c.class;
-    if class == 5 {
+    if class == ALT_CLASS {
         return true;
     }
     slots_fit(decompose(words, class, c.rest))
 }
 
 pub fn decode(words: &[i16], index: u16) -> Innovation
-    requires { ⌜ Checked (now words) ⌝ ∗ ⌜ Codebook.digitsFit (now words) index ≡ true ⌝ }
+    requires { ⌜ SoundWords (now words) ⌝ ∗ ⌜ Codebook.digitsFit (now words) index ≡ true ⌝ }
     ensures { λ r. ⌜ r ≡ Codebook.decode (now (words .entry)) index ⌝ }
 {
     let c = classify(words, index);
     let class = c.class;
     let rest = c.rest;
-    let mut code = [0i16; 80];
-    if class == 5 {
+    let mut code = [0i16; SUBFRAME];
+    if class == ALT_CLASS {
         alternative(words, rest, &mut code);
         return Innovation { code, class };
     }

@@ -1,9 +1,8 @@
 -- A row is within its book: 65535 / 128 is 511.
 use borrow.Author.Needs.{needs}
-use native.Mathlib.Omega.{arith}
 use denote.Ref.{now}
 use Prim.Native.Nat.{_+_, _*_, _%_}
-use mathlib.Core.Path.{_≡_, refl, ap, _∙_}
+use mathlib.Core.Path.{ap, _∙_}
 use mathlib.Core.List.{List}
 use lib.IntN.{ℤ}
 use Rattle.codebook.specs.Codebook as Codebook

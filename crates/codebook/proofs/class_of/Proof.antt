@@ -1,8 +1,7 @@
 -- Each turn sees that the class at k is not reached; class 0 always is.
 use native.Mathlib.Omega.{arith}
-use borrow.Author.Needs.{needs}
 use denote.Ref.{now}
-use Prim.Native.Nat.{ℕ, _+_, _<_, _≤_}
+use Prim.Native.Nat.{_<_, _≤_}
 use Rattle.tables.specs.Tables.{base}
 use Rattle.codebook.proofs.Classes.{Above, above-none, above-more, above-found, not-lowest}
 use Rattle.codebook.proofs.class_of.Statement.{statement}

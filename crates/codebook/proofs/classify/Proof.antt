@@ -2,8 +2,8 @@
 use native.Mathlib.Omega.{arith}
 use borrow.Author.Needs.{needs}
 use denote.Ref.{now}
-use Prim.Native.Nat.{ℕ, _≤_, _-_}
-use mathlib.Core.Path.{_≡_, refl, ap, _∙_}
+use Prim.Native.Nat.{ℕ, _≤_}
+use mathlib.Core.Path.{_≡_, ap, _∙_}
 use mathlib.Core.List.{List}
 use lib.IntN.{ℤ}
 use Rattle.tables.specs.Tables as Tables
@@ -32,7 +32,7 @@ add-unsigned-word : tie.Need-add-unsigned-word
 add-unsigned-word c = omega (arith, small c)
 
 unsigned-word-requires : tie.Need-unsigned-word-requires
-unsigned-word-requires c κs = omega (arith, small c, c .before .before .pre .size)
+unsigned-word-requires c κs = omega (arith, small c, c .before .before .pre .words-long)
 
 base-is : (c : tie.After-unsigned-word) → c .unsigned-word .result ≡ Tables.base (words (c .before)) (Codebook.class (words (c .before)) (i (c .before)))
 base-is c = c .unsigned-word .ensures ∙ ap (Tables.base (words (c .before))) (c .before .class-of .ensures)

@@ -1,8 +1,6 @@
 -- The limit is at least 1, so what it is cut to is a number.
 use native.Mathlib.Omega.{arith}
 use borrow.Author.Needs.{needs}
-use denote.Ref.{now}
-use Rattle.codebook.specs.Checked.{limit-least}
 use Rattle.codebook.specs.Codebook.{cut}
 use Rattle.codebook.proofs.cut.Statement.{statement}
 use Rattle.codebook.proofs.cut.Tie as tie
@@ -11,7 +9,7 @@ unsigned-word-requires : tie.Need-unsigned-word-requires
 unsigned-word-requires c κs = search needs
 
 sub-last : tie.Need-sub-last
-sub-last c = rw (c .unsigned-word .ensures) (limit-least (now (c .before .args .words)) (c .before .pre))
+sub-last c = rw (c .unsigned-word .ensures) (c .before .pre .limit-positive)
 
 returns : tie.Need-returns
 unfolding cut

@@ -4,13 +4,13 @@ use borrow.Author.Tests.{eq-eqb, ne-eqb}
 use denote.Ref.{now}
 use Prim.Native.Nat.{ℕ, _<_}
 use mathlib.Core.Bool.{true}
-use mathlib.Core.Path.{_≡_, refl, sym, ap, _∙_}
+use mathlib.Core.Path.{_≡_, ap, _∙_}
 use mathlib.Core.List.{List}
 use lib.IntN.{ℤ}
 use Rattle.codebook.specs.declared.Classified.{Classified}
 use Rattle.codebook.specs.declared.Innovation.{Innovation}
 use Rattle.codebook.specs.Codebook as Codebook
-use Rattle.codebook.specs.Ranges.{class-below}
+use Rattle.codebook.specs.Ranges.{class-below, slots-fit}
 use Rattle.codebook.proofs.decode.Statement.{statement}
 use Rattle.codebook.proofs.decode.Tie as tie
 
@@ -25,10 +25,6 @@ module _ (words : List ℤ) (c : Classified) where
   other : (c .class ≡ 5 → ⊥) → made (c .class) (Codebook.placeShapes words (c .class) (Codebook.decompose words (c .class) (c .rest)) (c .rest) Codebook.silence) ≡ Codebook.innovation words c
   unfolding Codebook.innovation
   other h = simp (ne-eqb (c .class) 5 h)
-
-  slots : (c .class ≡ 5 → ⊥) → Codebook.placeFits words c ≡ true → Codebook.slotsFit (Codebook.decompose words (c .class) (c .rest)) ≡ true
-  unfolding Codebook.placeFits
-  slots h t = simp (ne-eqb (c .class) 5 h) at t
 
 classify-requires : tie.Need-classify-requires
 classify-requires c κs = search needs
@@ -57,7 +53,7 @@ place-shapes-requires c κs =
     let s = b .before .before in
     let words = now (s .args .words) in
     let f : Codebook.placeFits words (b .before .classify .result) ≡ true = ap (Codebook.placeFits words) (b .before .classify .ensures) ∙ s .pre .1 in
-    (s .pre .0, (below b, ap Codebook.slotsFit (c .before .decompose .ensures) ∙ slots words (b .before .classify .result) (b .if1 .left) f))
+    (s .pre .0, (below b, ap Codebook.slotsFit (c .before .decompose .ensures) ∙ slots-fit words (b .before .classify .result) (b .if1 .left) f))
 
 returns-2 : tie.Need-returns-2
 unfolding Codebook.decode

@@ -2,16 +2,15 @@
 use native.Mathlib.Omega.{arith}
 use borrow.Author.Needs.{needs}
 use denote.Ref.{now}
-use mathlib.Core.Path.{_≡_, refl, sym, ap, _∙_}
-use mathlib.Core.List.{List, [], _∷_}
-use Prim.Native.Nat.{ℕ, _-_, _/_, _^_, _≤_, _<_}
-use lib.IntN.{ℤ, pos}
-use lib.Signed.{mag}
+use mathlib.Core.Path.{_∙_}
+use mathlib.Core.List.{List}
+use Prim.Native.Nat.{ℕ, _/_, _^_, _≤_, _<_}
+use lib.IntN.{ℤ}
 use mir.Syntax.{w16}
-use mir.Val.{toZ, ofZ}
+use mir.Val.{toZ}
 use mir.ValLaws.{toZ-pos}
 use Rattle.fixed.specs.Machine.{back}
-use Rattle.codebook.specs.Checked.{Within, pulses-within}
+use Rattle.codebook.specs.Sound.{pulses-within}
 use Rattle.codebook.specs.Codebook as Codebook
 use Rattle.codebook.proofs.Digits.{Found, found-none, found-more, found-end, small}
 use Rattle.codebook.proofs.decompose.Statement.{statement}
@@ -41,10 +40,10 @@ module _ (c : tie.After-pulses Inv-loop μ-loop) where
   n = Codebook.pulses words class
 
   at-least : 2 ≤ n
-  at-least = pulses-within words (c .before .pre .0) class (c .before .pre .1) .from
+  at-least = pulses-within (c .before .pre .0) class (c .before .pre .1) .0
 
   at-most : n ≤ 3
-  at-most = pulses-within words (c .before .pre .0) class (c .before .pre .1) .to
+  at-most = pulses-within (c .before .pre .0) class (c .before .pre .1) .1
 
   start-lt : rest / 2 ^ n < 16384
   start-lt = small n rest at-least at-most (c .before .fits .rest .fits)
@@ -65,7 +64,7 @@ sub-k : tie.Need-sub-k Inv-loop μ-loop
 sub-k c = omega arith
 
 remainder-requires : tie.Need-remainder-requires Inv-loop μ-loop
-remainder-requires c κs = (c .before .before .before .pre .0 .size, (c .before .before .before .pre .1, omega (arith, at-most (c .before .before))))
+remainder-requires c κs = (c .before .before .before .pre .0 .words-long, (c .before .before .before .pre .1, omega (arith, at-most (c .before .before))))
 
 mul-positions : tie.Need-mul-positions Inv-loop μ-loop
 mul-positions c = omega (arith, at-most (c .before .before .before))
@@ -74,7 +73,7 @@ array-set-from-positions : tie.Need-array-set-from-positions Inv-loop μ-loop
 array-set-from-positions c = omega (arith, at-most (c .before .before .before))
 
 quotient-requires : tie.Need-quotient-requires Inv-loop μ-loop
-quotient-requires c κs = (c .before .before .before .before .pre .0 .size, (c .before .before .before .before .pre .1, omega (arith, at-most (c .before .before .before))))
+quotient-requires c κs = (c .before .before .before .before .pre .0 .words-long, (c .before .before .before .before .pre .1, omega (arith, at-most (c .before .before .before))))
 
 loop-less : tie.Need-loop-less Inv-loop μ-loop
 loop-less c = omega arith

@@ -1,9 +1,9 @@
 -- -1 - z of a negative z, and z - 1 of a positive one, are one less than its size, which is at most 80.
-use Prim.Native.Nat.{ℕ, zero, suc, _-_, _≤_, _<_}
+use Prim.Native.Nat.{suc, _-_, _≤_}
 use native.Mathlib.Omega.{arith}
-use mathlib.Core.Bool.{Bool, true, false}
-use mathlib.Core.Path.{_≡_, refl, sym, ap, _∙_, subst}
-use lib.Dec.{T, ltb}
+use mathlib.Core.Bool.{true, false}
+use mathlib.Core.Path.{_≡_, ap, subst}
+use lib.Dec.{T}
 use lib.IntN.{ℤ, pos, negsuc, natAbs, _-ℤ_}
 use lib.Signed.{ltZ, nonNeg}
 use borrow.Author.Tests.{ltb-true, le-ltb}

@@ -1,8 +1,7 @@
 -- One store, of the sum of what stood there.
 use native.Mathlib.Omega.{arith}
 use borrow.Author.Needs.{needs}
-use mathlib.Core.Bool.{Bool}
-use mathlib.Core.Path.{_≡_, refl, sym, ap, _∙_}
+use mathlib.Core.Path.{_≡_, ap, _∙_}
 use Prim.Native.Nat.{ℕ, _<_, _-_}
 use denote.Ref.{now}
 use lib.IntN.{ℤ, pos, natAbs}

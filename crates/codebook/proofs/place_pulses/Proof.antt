@@ -1,17 +1,15 @@
 -- A turn is one pulse; an entry's size is a place from 1 to 80.
 use native.Mathlib.Omega.{arith}
-use borrow.Author.Needs.{needs}
 use denote.Ref.{now}
 use mathlib.Core.Path.{_≡_, refl, ap, _∙_}
-use mathlib.Core.List.{List}
-use Prim.Native.Nat.{ℕ, _+_, _-_, _≤_, _<_}
-use lib.IntN.{ℤ, pos}
+use Prim.Native.Nat.{_+_, _-_, _≤_}
+use lib.IntN.{ℤ}
 use mir.Syntax.{w16}
 use mir.Val.{toZ, ofZ}
-use Rattle.sequence.specs.Repeated.{repeated, repeated-none, repeated-again, repeated-end}
+use Rattle.sequence.specs.Repeated.{repeated, repeated-again, repeated-end}
 use Rattle.fixed.specs.Machine.{back}
 use Rattle.tables.specs.Tables as Tables
-use Rattle.codebook.specs.Checked.{entry-at}
+use Rattle.codebook.specs.Sound.{entry-at}
 use Rattle.codebook.specs.Codebook as Codebook
 use Rattle.codebook.proofs.place_pulses.Statement.{statement}
 use Rattle.codebook.proofs.place_pulses.Tie as tie
@@ -38,7 +36,7 @@ entry-is c = back w16 (c .word .result) (c .word .ok) ∙ c .word .ensures
 place-pulse-requires : tie.Need-place-pulse-requires Inv-loop μ-loop
 place-pulse-requires c κs =
     let s = c .before .before .before .before in
-    rw (entry-is (c .before)) (entry-at (now (s .args .words)) (s .pre .0) (s .args .row + c .before .before .before .loop .k) (omega arith) (omega arith))
+    rw (entry-is (c .before)) (entry-at (s .pre .0) (s .args .row + c .before .before .before .loop .k) (omega arith) (omega arith))
 
 add-k : tie.Need-add-k Inv-loop μ-loop
 add-k c = omega arith

@@ -1,18 +1,16 @@
 -- A turn is one pulse.
 use native.Mathlib.Omega.{arith}
-use borrow.Author.Needs.{needs}
 use denote.Ref.{now}
-use mathlib.Core.Bool.{Bool, true}
+use mathlib.Core.Bool.{Bool}
 use mathlib.Core.Path.{_≡_, refl, ap, _∙_}
-use mathlib.Core.List.{List}
-use Prim.Native.Nat.{ℕ, _+_, _-_, _≤_, _<_}
+use Prim.Native.Nat.{_-_, _≤_, _<_}
 use lib.IntN.{ℤ, pos}
 use lib.ListN.{getD}
 use mir.Syntax.{w16}
 use mir.Val.{toZ, ofZ}
 use Rattle.sequence.specs.Repeated.{repeated, repeated-again, repeated-end}
 use Rattle.fixed.specs.Machine.{back}
-use Rattle.codebook.specs.Checked.{pulses-within}
+use Rattle.codebook.specs.Sound.{pulses-within}
 use Rattle.codebook.specs.Codebook as Codebook
 use Rattle.codebook.specs.Ranges.{slot-fits}
 use Rattle.codebook.proofs.place_shapes.Statement.{statement}
@@ -25,7 +23,7 @@ abbrev μ-loop : tie.MeasureT-loop
 μ-loop words class rest code₀ positions n k₀ code k = n - k
 
 pulses-requires : tie.Need-pulses-requires Inv-loop μ-loop
-pulses-requires c κs = (c .pre .0, c .pre .1 .0)
+pulses-requires c κs = (c .pre .0 .words-long, c .pre .1 .0)
 
 loop-holds : tie.Need-loop-holds Inv-loop μ-loop
 unfolding repeated
@@ -35,7 +33,7 @@ below : (c : tie.In-loop Inv-loop μ-loop) → c .before .loop .k < 3
 below c =
     let p = c .before .before in
     let s = p .before in
-    omega (arith, p .pulses .ensures, pulses-within (now (s .args .words)) (s .pre .0) (s .args .class) (s .pre .1 .0) .to)
+    omega (arith, p .pulses .ensures, pulses-within (s .pre .0) (s .args .class) (s .pre .1 .0) .1)
 
 mul-slot : tie.Need-mul-slot Inv-loop μ-loop
 mul-slot c = omega (arith, below c)

@@ -1,8 +1,8 @@
 -- The product has 31 bits, and its part above the low 17 has 14.
 use native.Mathlib.Omega.{arith}
 use borrow.Author.Needs.{needs}
-use mathlib.Core.Path.{_≡_, refl, ap, _∙_}
-use lib.IntN.{ℤ, pos, natAbs, _*ℤ_}
+use mathlib.Core.Path.{_≡_, ap}
+use lib.IntN.{ℤ, _*ℤ_}
 use lib.Signed.{mag, shrZ}
 use mir.Syntax.{w16, w64}
 use mir.Val.{SFits, toZ, ofZ}

@@ -1,10 +1,10 @@
 -- The sum of two 16-bit numbers is one of 64 bits.
 use native.Mathlib.Omega.{arith}
 use borrow.Author.Needs.{needs}
-use mathlib.Core.Path.{_≡_, refl, ap, sym, _∙_}
-use lib.IntN.{ℤ, pos, natAbs, _+ℤ_, _-ℤ_}
+use mathlib.Core.Path.{_∙_}
+use lib.IntN.{ℤ, _+ℤ_, _-ℤ_}
 use mir.Syntax.{w16, w64}
-use mir.Val.{SFits, toZ, ofZ}
+use mir.Val.{SFits}
 use mir.ValLaws.{toZ-ofZ}
 use Rattle.fixed.specs.Abs.{abs-add, abs-sub}
 use Rattle.fixed.specs.Machine.{back, widens, widened, sfits-abs, abs-sfits}
