@@ -1,0 +1,5 @@
+pub mod Codebook
+pub mod Sound
+pub mod Ranges
+pub mod Steps
+pub mod Cases
