@@ -1,0 +1,5 @@
+mod Even
+mod Ends
+mod Halves
+mod Range
+mod Patterns

@@ -1,0 +1,2 @@
+mod Flipped
+mod Rules
