@@ -295,34 +295,25 @@ fn lsp_answer(q: &[i64]) -> Vec<i64> {
     }
 }
 
-// 0 decode_absolute of a code, 1 decode_relative of a code and a lag integer,
-// 2 predict: lag integer, fraction, a seed of the 154 samples before; 3 sharpen: lag integer, fraction, gain, a seed of the innovation
+// an absolute code, a relative code or -1, and then
+// nothing: the lag; 2, a seed: predict from the 154 samples that it gives; 3, a seed, a gain: sharpen the innovation that it gives
 fn pitch_questions(r: &mut Random) -> Vec<Question> {
-    let mut all = Vec::new();
-    for code in 0..256 {
-        all.push(vec![0, code]);
-    }
-    for prev in [19, 20, 21, 24, 25, 26, 60, 80, 138, 139, 140, 143, 144] {
+    let mut all: Vec<Question> = (0..256).map(|code| vec![code, -1]).collect();
+    for absolute in [0, 2, 5, 8, 17, 20, 120, 196, 250, 252, 254, 255] {
         for code in 0..32 {
-            all.push(vec![1, code, prev]);
+            all.push(vec![absolute, code]);
         }
     }
-    for n in 0..60 {
-        let c = match n {
-            0 => 0,
-            1 => 196,
-            2 => 255,
-            _ => r.below(256) as i64,
-        };
-        let lag = pitch::decode_absolute(c as i16);
-        all.push(vec![2, lag.integer as i64, lag.frac as i64, n]);
+    for n in 0..40 {
+        let absolute = [0, 196, 255].get(n).map_or(r.below(256) as i64, |&c| c);
+        all.push(vec![absolute, r.below(33) as i64 - 1, 2, n as i64]);
     }
-    all.push(vec![2, 144, -1, 7]);
-    for n in 0..80 {
-        let lag = pitch::decode_absolute(r.below(180) as i16);
-        all.push(vec![3, lag.integer as i64, lag.frac as i64, r.word(), n]);
+    all.push(vec![255, 31, 2, 7]);
+    for n in 0..40 {
+        let gain = [32767, -32768, 0].get(n).map_or(r.word(), |&g| g);
+        all.push(vec![r.below(180) as i64, -1, 3, n as i64, gain]);
     }
-    all.push(vec![3, 19, 1, 32767, 7]);
+    all.push(vec![0, -1, 3, 7, 16384]);
     all
 }
 
@@ -343,37 +334,30 @@ fn samples(seed: i64, n: usize) -> Vec<i16> {
 }
 
 fn pitch_answer(q: &[i64]) -> Vec<i64> {
-    let lag = |integer: i64, frac: i64| pitch::Lag {
-        integer: integer as i16,
-        frac: frac as i16,
-    };
-    match q[0] {
-        0 => {
-            let l = pitch::decode_absolute(q[1] as i16);
-            vec![l.integer as i64, l.frac as i64]
-        }
-        1 => {
-            let l = pitch::decode_relative(q[1] as i16, q[2] as i16);
-            vec![l.integer as i64, l.frac as i64]
-        }
-        2 => {
+    let mut lag = pitch::decode_absolute(q[0] as i16);
+    if 0 <= q[1] {
+        lag = pitch::decode_relative(q[1] as i16, lag.integer);
+    }
+    match q.get(2) {
+        Some(2) => {
             let mut exc = samples(q[3], 154);
             exc.resize(314, 0);
-            pitch::predict(&mut exc, 154, &lag(q[1], q[2]));
+            pitch::predict(&mut exc, 154, &lag);
             numbers(&exc[154..234])
         }
-        _ => {
-            let mut code: [i16; 80] = samples(q[4], 80).try_into().unwrap();
-            pitch::sharpen(&mut code, &lag(q[1], q[2]), q[3] as i16);
+        Some(3) => {
+            let mut code: [i16; 80] = samples(q[3], 80).try_into().unwrap();
+            pitch::sharpen(&mut code, &lag, q[4] as i16);
             numbers(&code)
         }
+        _ => vec![lag.integer as i64, lag.frac as i64],
     }
 }
 
 // an index; the answer: 1, the class and the innovation, or 0 where a position digit lies outside 0..=39
 fn codebook_questions(r: &mut Random) -> Vec<Question> {
     let mut all: Vec<Question> = vec![vec![0], vec![1], vec![65535], vec![32768]];
-    for _ in 0..396 {
+    for _ in 0..316 {
         all.push(vec![r.below(65536) as i64]);
     }
     all
@@ -438,16 +422,16 @@ fn excitation_answer(q: &[i64]) -> Vec<i64> {
     vec![first as i64, second as i64]
 }
 
-// a seed of 160 samples, run after another 160 of the seed before; the answer: the last 160 as they come out (tables matter)
+// a seed; the answer: 16 samples that it gives, as they come out after 24 that the seed 1000 on gives
 fn postfilter_questions(_r: &mut Random) -> Vec<Question> {
     (0..300).map(|n| vec![n]).collect()
 }
 
 fn postfilter_answer(q: &[i64]) -> Vec<i64> {
     let mut filter = postfilter::OutputFilter::default();
-    let mut first = samples(q[0] + 1000, 160);
+    let mut first = samples(q[0] + 1000, 24);
     filter.run(&mut first);
-    let mut block = samples(q[0], 160);
+    let mut block = samples(q[0], 16);
     filter.run(&mut block);
     numbers(&block)
 }
