@@ -3,7 +3,7 @@
 use mathlib.Core.Path.{_≡_, refl, subst}
 use mathlib.Core.Bool.{Bool, true, false, cond}
 use Prim.Native.Nat.{ℕ, zero, suc, _+_, _-_, _*_, _/_, _≤_, _<_}
-use native.Mathlib.Nat.{le-refl, mul-le-mul, div-le-self}
+use native.Mathlib.Nat.{le-refl, mul-le-mul, mul-comm, div-le-self, div-le-of-le-mul, div-lt-iff-lt-mul}
 use native.Mathlib.Omega.{arith}
 use lib.Dec.{T, ltb}
 use borrow.Author.Tests.{ltb-true}
@@ -52,6 +52,11 @@ mag≤abs (negsuc n) = omega arith
 pub abs≤mag : (z : ℤ) → natAbs z ≤ mag z + 1
 abs≤mag (pos n) = omega arith
 abs≤mag (negsuc n) = omega arith
+
+-- a number that is at most m · n, by m, is at most n
+pub abs-shr-by : (z : ℤ) (m n : ℕ) → 0 < m → natAbs z ≤ m * n → natAbs (shrZ z m) ≤ n
+abs-shr-by (pos a) m n p h = div-le-of-le-mul m h
+abs-shr-by (negsuc a) m n p h = div-lt-iff-lt-mul p .1 (rw (mul-comm n m) h)
 
 -- ---- by the sign, from a test
 pub nonneg-is : (z : ℤ) → ltZ z (pos 0) ≡ false → z ≡ pos (mag z)

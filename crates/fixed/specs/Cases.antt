@@ -65,9 +65,9 @@ unfolding wrap signed residue
 trunc32-top = refl
 
 -- -3 / 2 is -2
-shift-down : shift (negsuc 2) (negsuc 0) ≡ negsuc 1
+rounds-down : shift (negsuc 2) (negsuc 0) ≡ negsuc 1
 unfolding shift wrap signed residue
-shift-down = refl
+rounds-down = refl
 
 -- of an amount of -64 the low six bits are 0
 shift-masked : shift (pos 5) (negsuc 63) ≡ pos 5
@@ -76,5 +76,10 @@ shift-masked = refl
 
 -- -1 by one half is -1
 half-of-minus-one : mul32x16 (negsuc 0) (pos 16384) ≡ negsuc 0
-unfolding mul32x16 fold mul mulUs wrap signed residue
+unfolding mul32x16 wrap signed residue
 half-of-minus-one = refl
+
+-- the largest product does not wrap: -2 ^ 31 by -1
+largest-product : mul32x16 (negsuc (2 ^ 31 - 1)) (negsuc (2 ^ 15 - 1)) ≡ pos (2 ^ 31)
+unfolding mul32x16 wrap signed residue
+largest-product = refl

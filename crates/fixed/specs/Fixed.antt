@@ -54,9 +54,9 @@ mul x y = x *ℤ y *ℤ pos 2
 unfoldable pub mulUs : ℤ → ℤ → ℤ
 mulUs x y = pos (residue 65536 x) *ℤ y *ℤ pos 2
 
--- a 32-bit number by a 16-bit one, by halves
+-- the low 32 bits of x by a number y of 16 bits in Q15: their product over 2 ^ 15, rounded down
 unfoldable pub mul32x16 : ℤ → ℤ → ℤ
-mul32x16 x y = fold (shrZ (acc (mulUs (low x) y)) 65536) (mul (hi x) y)
+mul32x16 x y = shrZ (trunc32 x *ℤ y) 32768
 
 -- v times 2 ^ s, rounded down, as an accumulator; of the amount the machine sees the low six bits
 unfoldable pub shift : ℤ → ℤ → ℤ

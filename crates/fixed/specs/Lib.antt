@@ -4,7 +4,10 @@ pub mod Cases
 pub mod Integers
 pub mod Abs
 pub mod Wrap
+pub mod Quotients
 pub mod Machine
 pub mod Bounds
 pub mod Sums
 pub mod Shifts
+pub mod Products
+pub mod Division

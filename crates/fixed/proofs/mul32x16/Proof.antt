@@ -1,3 +1,4 @@
+-- Each half's product as its call gave it; together they are the one product.
 use borrow.Author.Needs.{needs}
 use native.Mathlib.Omega.{arith}
 use mathlib.Core.Path.{_≡_, refl, _∙_}
@@ -7,7 +8,8 @@ use mir.Syntax.{w16, w64}
 use mir.Val.{SFits, toZ, ofZ}
 use mir.ValLaws.{toZ-ofZ}
 use Rattle.fixed.specs.Fixed as Fixed
-use Rattle.fixed.specs.Machine.{back, shr-sfits}
+use Rattle.fixed.specs.Machine.{back, shr-sfits, abs-sfits}
+use Rattle.fixed.specs.Products.{by-halves}
 use Rattle.fixed.proofs.mul32x16.Statement.{statement}
 use Rattle.fixed.proofs.mul32x16.Tie as tie
 
@@ -64,10 +66,10 @@ fold-requires : tie.Need-fold-requires
 fold-requires c κs = search needs
 
 returns : tie.Need-returns
-unfolding Fixed.mul32x16
 returns c =
     let b = c .before in
-    cc (a-back b, half-back b, back w64 (b .mul .result) (b .mul .ok), back w64 (c .fold .result) (c .fold .ok), a-is b, m-is b)
+    let e : c .fold .result ≡ Fixed.fold (shrZ (Fixed.acc (Fixed.mulUs (Fixed.low (x b)) (y b))) 65536) (Fixed.mul (Fixed.hi (x b)) (y b)) = cc (a-back b, half-back b, back w64 (b .mul .result) (b .mul .ok), a-is b, m-is b) in
+    back w64 (c .fold .result) (c .fold .ok) ∙ e ∙ by-halves (x b) (y b) (abs-sfits w16 (y b) (s b .fits .y))
 
 pub mul32x16-spec : {M : Type 1} → statement M
 mul32x16-spec = tie.close (tie.spec low-requires mul-us-requires acc-requires hi-requires mul-requires fold-requires returns)
