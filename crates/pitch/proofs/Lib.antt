@@ -1,0 +1,3 @@
+mod Fraction
+mod Naturals
+mod Taps

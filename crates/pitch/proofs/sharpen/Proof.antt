@@ -1,0 +1,102 @@
+-- The guarded innovation is rewritten and copied back; where nothing is to be rewritten it stays.
+use borrow.Author.Needs.{needs}
+use native.Mathlib.Omega.{arith}
+use mathlib.Core.Path.{_≡_, refl, sym, _∙_, ap}
+use mathlib.Core.List.{List}
+use Prim.Native.Nat.{ℕ, _+_, _-_, _≤_, _<_}
+use lib.IntN.{ℤ, pos}
+use lib.ListN.{length, take, drop}
+use lib.Seq.{take-all}
+use mir.Syntax.{w16}
+use mir.ValLaws.{toZ-ofZ}
+use Rattle.sequence.specs.Rewritten.{rewritten}
+use Rattle.pitch.specs.Pitch as Pitch
+use Rattle.pitch.specs.Lags.{sane-phase, sane-delay}
+use Rattle.pitch.specs.Kept.{length-sharpen, unsharpened}
+use Rattle.pitch.proofs.Taps.{length-interp}
+use Rattle.pitch.proofs.sharpen.Statement.{statement}
+use Rattle.pitch.proofs.sharpen.Tie as tie
+
+delay-requires : tie.Need-delay-requires
+delay-requires c κs = search needs
+
+sub-first : tie.Need-sub-first
+sub-first c = rw (c .delay .ensures) (omega (arith, sane-delay (c .before .args .lag) (c .before .pre .2)))
+
+returns : tie.Need-returns
+unfolding Pitch.first
+returns c =
+    let s = c .before .before in
+    let e = c .before .delay .ensures in
+    sym (unsharpened (Pitch.interp (s .args .words .now)) (s .args .code .now) (s .args .lag) (s .args .gain) (rw (← e) (c .if1 .taken)))
+
+guarded-requires : tie.Need-guarded-requires
+guarded-requires c κs = search needs
+
+interp-requires : tie.Need-interp-requires
+interp-requires c κs = search needs
+
+phase-requires : tie.Need-phase-requires
+phase-requires c κs = search needs
+
+slice-aggregate-sharpen-from : tie.Need-slice-aggregate-sharpen-from
+slice-aggregate-sharpen-from c = search needs
+
+sharpen-from-requires : tie.Need-sharpen-from-requires
+sharpen-from-requires c κs =
+    let d = c .before .before .before .before .before .before in
+    let s = d .before in
+    let r : (20 ≤ d .delay .result) × (d .delay .result ≤ 144) = rw (d .delay .ensures) (sane-delay (s .args .lag) (s .pre .2)) in (
+      ap length (c .before .before .interp .ensures) ∙ length-interp (s .args .words .now) (s .pre .0),
+      rw (c .before .phase .ensures) (sane-phase (s .args .lag) (s .pre .2)),
+      search needs,
+      omega arith,
+      omega arith,
+    )
+
+sub-copy : tie.Need-sub-copy
+sub-copy c = search needs
+
+part-copy-start : tie.Need-part-copy-start
+part-copy-start c = search needs
+
+part-copy-end : tie.Need-part-copy-end
+part-copy-end c = search needs
+
+copy-requires : tie.Need-copy-requires
+copy-requires c κs = search needs
+
+same-length : tie.Need-same-length
+same-length c = search needs
+
+returns-2 : tie.Need-returns-2
+unfolding Pitch.sharpen Pitch.first
+returns-2 c =
+    let f = c .before .before .before .before .before .before in
+    let p = f .before .before in
+    let g = p .before .before in
+    let d = g .before .before .before in
+    let s = d .before in
+    let Z : List ℤ = rewritten (Pitch.sharpened (Pitch.interp (s .args .words .now)) (Pitch.phase (s .args .lag)) (Pitch.first (s .args .lag)) (s .args .gain)) (21 + Pitch.first (s .args .lag)) (Pitch.guarded (s .args .code .now)) (80 - Pitch.first (s .args .lag)) in
+    let e : f .sharpen-from .last .1 .1 .0 ≡ Z = f .sharpen-from .ensures ∙ simp (p .before .interp .ensures, p .phase .ensures, d .delay .ensures, g .guarded .ensures, toZ-ofZ w16 _ (s .fits .gain)) in
+    let n = length-sharpen (Pitch.interp (s .args .words .now)) (s .args .code .now) (s .args .lag) (s .args .gain) in
+    c .before .copy .ensures ∙ ap (λ (l : List ℤ). take 80 (drop 21 l)) e ∙ take-all 80 (drop 21 Z) (omega (arith, n, s .pre .1))
+
+pub sharpen-spec : {M : Type 1} → statement M
+sharpen-spec =
+    tie.close
+    (tie.spec
+    delay-requires
+    sub-first
+    returns
+    guarded-requires
+    interp-requires
+    phase-requires
+    slice-aggregate-sharpen-from
+    sharpen-from-requires
+    sub-copy
+    part-copy-start
+    part-copy-end
+    copy-requires
+    same-length
+    returns-2)

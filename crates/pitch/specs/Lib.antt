@@ -1,0 +1,4 @@
+pub mod Pitch
+pub mod Lags
+pub mod Kept
+pub mod Cases

@@ -1,0 +1,225 @@
+// Lags in thirds of a sample, the adaptive codebook's prediction, and pitch sharpening.
+ghost use mathlib.Core.Path.{_≡_};
+ghost use Prim.Native.Nat.{_+_, _-_, _*_, _/_, _≤_, _<_};
+ghost use lib.ListN.{length};
+ghost use lib.IntN.{ℤ, pos, natAbs, _*ℤ_};
+ghost use Rattle.sequence.specs.Total.{total};
+ghost use Rattle.sequence.specs.Rewritten.{rewritten};
+ghost use Rattle.fixed.specs.Fixed as Fixed;
+ghost use Rattle.tables.specs.Places.{WORDS};
+ghost use Rattle.pitch.specs.Pitch as Pitch;
+use fixed::acc;
+use fixed::fold;
+use fixed::hi;
+use fixed::low;
+use fixed::mul;
+use fixed::mul32x16;
+use fixed::restoring_divide;
+use fixed::sat;
+use fixed::shift;
+
+// A lag's whole samples, and the thirds of a sample that are left, -1, 0 or 1.
+pub struct Lag {
+    pub integer: i16,
+    pub frac: i16,
+}
+
+// A third of a code, rounded up.
+fn third(code: u16) -> i16
+    requires { ⌜ code < 256 ⌝ }
+    ensures { λ r. ⌜ r ≡ pos ((code + 2) / 3) ⌝ }
+{
+    low(restoring_divide(code as i64 + 2, 3, 16))
+}
+
+fn triple(x: i16) -> i16
+    requires { ⌜ natAbs x ≤ 10000 ⌝ }
+    ensures { λ r. ⌜ r ≡ x *ℤ pos 3 ⌝ }
+{
+    low(mul(x, 3) >> 1)
+}
+
+// The lag of n thirds, whose nearest whole number is given.
+fn thirds(n: i16, whole: i16) -> Lag
+    requires { ⌜ (n ≡ pos (natAbs n)) × (natAbs n ≤ 431) × (whole ≡ pos ((natAbs n + 1) / 3)) ⌝ }
+    ensures { λ r. ⌜ r ≡ Pitch.thirds (natAbs n) ⌝ }
+{
+    Lag {
+        integer: whole,
+        frac: n - triple(whole),
+    }
+}
+
+// The lag of an absolute code, which the first subframe of a half has.
+pub fn decode_absolute(code: u16) -> Lag
+    requires { ⌜ code < 256 ⌝ }
+    ensures { λ r. ⌜ r ≡ Pitch.decodeAbsolute code ⌝ }
+{
+    let c = code as i16;
+    if code >= 197 {
+        // the top of the range has whole samples only
+        return Lag {
+            integer: c - 112,
+            frac: 0,
+        };
+    }
+    thirds(c + 58, third(code) + 19)
+}
+
+// The lag integer at which the relative codes begin.
+fn min(prev: i16) -> i16
+    requires { ⌜ Pitch.InRange prev ⌝ }
+    ensures { λ r. ⌜ r ≡ pos (Pitch.min prev) ⌝ }
+{
+    let m = prev - 5;
+    if m < 20 {
+        return 20;
+    }
+    if m + 9 > 143 {
+        return 134;
+    }
+    m
+}
+
+// The lag of a relative code, which the second subframe has, by the first's lag integer.
+pub fn decode_relative(code: u16, prev: i16) -> Lag
+    requires { ⌜ (code < 32) × Pitch.InRange prev ⌝ }
+    ensures { λ r. ⌜ r ≡ Pitch.decodeRelative code prev ⌝ }
+{
+    let c = code as i16;
+    let m = min(prev);
+    thirds(triple(m) + c - 2, third(code) + m - 1)
+}
+
+fn phase(lag: Lag) -> usize
+    requires { ⌜ Pitch.Sane lag ⌝ }
+    ensures { λ r. ⌜ r ≡ Pitch.phase lag ⌝ }
+{
+    let p = -lag.frac;
+    if p < 0 { (p + 3) as usize } else { p as usize }
+}
+
+fn delay(lag: Lag) -> usize
+    requires { ⌜ Pitch.Sane lag ⌝ }
+    ensures { λ r. ⌜ r ≡ Pitch.delay lag ⌝ }
+{
+    let d = lag.integer as usize;
+    if -lag.frac < 0 { d + 1 } else { d }
+}
+
+fn interp(words: &[i16]) -> &[i16]
+    requires { ⌜ length (now words) ≡ WORDS ⌝ }
+    ensures { λ r. ⌜ now r ≡ Pitch.interp (now (words .entry)) ⌝ }
+{
+    let start = tables::PITCH_INTERP;
+    let end = start + 31;
+    &words[start..end]
+}
+
+// The sum of ten products: the signal going back from a place, by every third tap from a first one on.
+fn before(taps: &[i16], tap: usize, signal: &[i16], centre: usize) -> i64
+    requires { ⌜ (length (now taps) ≡ 31) × (tap ≤ 3) × (9 ≤ centre) × (centre < length (now signal)) ⌝ }
+    ensures { λ r. ⌜ r ≡ total Fixed.fold (pos 0) (Pitch.before (now (taps .entry)) tap (now (signal .entry)) centre) 10 ⌝ }
+{
+    let mut value = 0i64;
+    for k in 0..10 {
+        value = fold(value, mul(signal[centre - k], taps[tap + 3 * k]));
+    }
+    value
+}
+
+// And on top of it the ten of the signal behind that place.
+fn after(sum: i64, taps: &[i16], tap: usize, signal: &[i16], centre: usize) -> i64
+    requires { ⌜ (natAbs sum ≤ 549755813888) × (length (now taps) ≡ 31) × (tap ≤ 3) × (centre + 10 < length (now signal)) ⌝ }
+    ensures { λ r. ⌜ r ≡ total Fixed.fold sum (Pitch.after (now (taps .entry)) tap (now (signal .entry)) centre) 10 ⌝ }
+{
+    let mut value = sum;
+    for k in 0..10 {
+        value = fold(value, mul(signal[centre + 1 + k], taps[tap + 3 * k]));
+    }
+    value
+}
+
+// One sample between those of a signal, by the two-sided filter.
+fn interpolated_sample(taps: &[i16], phase: usize, signal: &[i16], centre: usize) -> i64
+    requires { ⌜ (length (now taps) ≡ 31) × (phase < 3) × (9 ≤ centre) × (centre + 10 < length (now signal)) ⌝ }
+    ensures { λ r. ⌜ r ≡ Pitch.interpolatedSample (now (taps .entry)) phase (now (signal .entry)) centre ⌝ }
+{
+    let sum = before(taps, phase, signal, centre);
+    after(sum, taps, 3 - phase, signal, centre)
+}
+
+// The adaptive codebook's 80 samples from place at on.
+pub fn predict(words: &[i16], exc: &mut [i16], at: usize, lag: Lag)
+    requires { ⌜ (length (now words) ≡ WORDS) × (154 ≤ at) × (at + 80 ≤ length (now exc)) × Pitch.Sane lag ⌝ }
+    ensures { λ _. ⌜ now (exc .exit) ≡ Pitch.predict (Pitch.interp (now (words .entry))) (now (exc .entry)) at lag ⌝ }
+{
+    let taps = interp(words);
+    let p = phase(lag);
+    let d = delay(lag);
+    for n in 0..80 {
+        let place = at + n;
+        let value = interpolated_sample(taps, p, &exc[..], place - d);
+        let y = hi(sat(fold(value, 32768)));
+        exc[place] = y;
+    }
+}
+
+// A sample of the innovation with its share of an earlier one.
+fn mixed(value: i64, gain: i16, x: i16) -> i16
+    ensures { λ r. ⌜ r ≡ Pitch.mixed value gain x ⌝ }
+{
+    let scaled = shift(mul32x16(acc(value), gain), 1);
+    hi(fold(fold(scaled, (x as i64) * 65536), 32768))
+}
+
+// The innovation behind its guard, from sample first on.
+fn sharpen_from(taps: &[i16], phase: usize, buf: &mut [i16], first: usize, gain: i16)
+    requires { ⌜ (length (now taps) ≡ 31) × (phase < 3) × (length (now buf) ≡ 101) × (10 ≤ first) × (first ≤ 80) ⌝ }
+    ensures { λ _. ⌜ now (buf .exit) ≡ rewritten (Pitch.sharpened (now (taps .entry)) phase first gain) (21 + first) (now (buf .entry)) (80 - first) ⌝ }
+{
+    let count = 80 - first;
+    for n in 0..count {
+        let place = 21 + first + n;
+        let value = interpolated_sample(taps, phase, &buf[..], 11 + n);
+        let y = mixed(value, gain, buf[place]);
+        buf[place] = y;
+    }
+}
+
+fn copy(dst: &mut [i16], src: &[i16])
+    requires { ⌜ length (now dst) ≡ length (now src) ⌝ }
+    ensures { λ _. ⌜ now (dst .exit) ≡ now (src .entry) ⌝ }
+{
+    let mut i = 0;
+    while i < src.len() {
+        let x = src[i];
+        dst[i] = x;
+        i += 1;
+    }
+}
+
+// The innovation behind zeros, which stand for the innovation before this subframe.
+fn guarded(code: &[i16]) -> [i16; 101]
+    requires { ⌜ length (now code) ≡ 80 ⌝ }
+    ensures { λ r. ⌜ r ≡ Pitch.guarded (now (code .entry)) ⌝ }
+{
+    let mut buf = [0i16; 101];
+    copy(&mut buf[21..], code);
+    buf
+}
+
+// The innovation with itself, a lag earlier, mixed in.
+pub fn sharpen(words: &[i16], code: &mut [i16], lag: Lag, gain: i16)
+    requires { ⌜ (length (now words) ≡ WORDS) × (length (now code) ≡ 80) × Pitch.Sane lag ⌝ }
+    ensures { λ _. ⌜ now (code .exit) ≡ Pitch.sharpen (Pitch.interp (now (words .entry))) (now (code .entry)) lag gain ⌝ }
+{
+    // the filter reaches ten samples past the delay
+    let first = delay(lag) - 10;
+    if first >= 80 {
+        return;
+    }
+    let mut buf = guarded(&code[..]);
+    sharpen_from(interp(words), phase(lag), &mut buf, first, gain);
+    copy(&mut code[..], &buf[21..]);
+}
