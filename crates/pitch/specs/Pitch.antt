@@ -73,12 +73,12 @@ interpolatedSample taps phase signal centre = total fold (total fold (pos 0) (be
 unfoldable pub predicted : List ℤ → ℕ → ℕ → ℕ → ℕ → List ℤ → ℤ
 predicted taps phase delay start n exc = hi (sat (fold (interpolatedSample taps phase exc (start + n - delay)) (pos 32768)))
 
--- 80 samples from place start on; behind the first twenty or so they come from those made here
+-- 80 samples from place start on: the filter reaches ten samples past the delay, so later ones come from those made here
 unfoldable pub predict : List ℤ → List ℤ → ℕ → Lag → List ℤ
 predict taps exc start l = rewritten (predicted taps (phase l) (delay l) start) start exc 80
 
 -- ---- sharpening
--- the first sharpened sample: the filter reaches ten samples past the delay
+-- the first sharpened sample, for the same reach
 unfoldable pub first : Lag → ℕ
 first l = delay l - 10
 
