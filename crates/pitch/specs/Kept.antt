@@ -1,12 +1,11 @@
 -- What prediction and sharpening leave as it was.
 use native.Mathlib.Omega.{arith}
-use mathlib.Core.Path.{_≡_, refl, ap, _∙_}
-use mathlib.Core.List.{List, _++_}
+use mathlib.Core.Path.{_≡_}
+use mathlib.Core.List.{List}
 use Prim.Native.Nat.{ℕ, _+_, _-_, _≤_}
-use lib.IntN.{ℤ, pos}
-use lib.ListN.{length, getD, take, drop, replicate, length-append, length-drop, length-replicate}
-use lib.Seq.{drop-append-seam}
-use Rattle.sequence.specs.Rewritten.{rewritten, rewritten-none, length-rewritten, take-rewritten, getD-rewritten-later}
+use lib.IntN.{ℤ}
+use lib.ListN.{length, getD, take, length-append, length-drop}
+use Rattle.sequence.specs.Rewritten.{rewritten, length-rewritten, take-rewritten, getD-rewritten-later}
 use Rattle.pitch.specs.declared.Lag.{Lag}
 use Rattle.pitch.specs.Pitch.{predict, first, guarded, sharpen}
 

@@ -94,6 +94,6 @@ guarded code = replicate 21 (pos 0) ++ code
 unfoldable pub sharpened : List ℤ → ℕ → ℕ → ℤ → ℕ → List ℤ → ℤ
 sharpened taps phase first gain n buf = mixed (interpolatedSample taps phase buf (11 + n)) gain (getD buf (21 + first + n) (pos 0))
 
--- an innovation of 80 samples, rewritten from the first sharpened one on: each comes from those rewritten before it, or that stay
+-- an innovation of 80 samples, rewritten from the first sharpened one on. Each comes from samples at least 10 before it, so one that is to be rewritten is read only after that
 unfoldable pub sharpen : List ℤ → List ℤ → Lag → ℤ → List ℤ
 sharpen taps code l gain = drop 21 (rewritten (sharpened taps (phase l) (first l) gain) (21 + first l) (guarded code) (80 - first l))

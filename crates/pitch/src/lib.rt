@@ -32,6 +32,7 @@ fn third(code: u16) -> i16
     low(restoring_divide(code as i64 + 2, 3, 16))
 }
 
+// Three times x: half of its fractional product with 3.
 fn triple(x: i16) -> i16
     requires { ⌜ natAbs x ≤ 10000 ⌝ }
     ensures { λ r. ⌜ r ≡ x *ℤ pos 3 ⌝ }
@@ -91,6 +92,7 @@ pub fn decode_relative(code: u16, prev: i16) -> Lag
     thirds(triple(m) + c - 2, third(code) + m - 1)
 }
 
+// The filter's phase: the negated fraction, which is made positive with a whole sample more of delay.
 fn phase(lag: Lag) -> usize
     requires { ⌜ Pitch.Sane lag ⌝ }
     ensures { λ r. ⌜ r ≡ Pitch.phase lag ⌝ }
@@ -99,6 +101,7 @@ fn phase(lag: Lag) -> usize
     if p < 0 { (p + 3) as usize } else { p as usize }
 }
 
+// The delay that goes with it, in whole samples.
 fn delay(lag: Lag) -> usize
     requires { ⌜ Pitch.Sane lag ⌝ }
     ensures { λ r. ⌜ r ≡ Pitch.delay lag ⌝ }
@@ -107,6 +110,7 @@ fn delay(lag: Lag) -> usize
     if -lag.frac < 0 { d + 1 } else { d }
 }
 
+// The interpolation filter's taps.
 fn interp(words: &[i16]) -> &[i16]
     requires { ⌜ length (now words) ≡ WORDS ⌝ }
     ensures { λ r. ⌜ now r ≡ Pitch.interp (now (words .entry)) ⌝ }
@@ -187,6 +191,7 @@ fn sharpen_from(taps: &[i16], phase: usize, buf: &mut [i16], first: usize, gain:
     }
 }
 
+// dst becomes src.
 fn copy(dst: &mut [i16], src: &[i16])
     requires { ⌜ length (now dst) ≡ length (now src) ⌝ }
     ensures { λ _. ⌜ now (dst .exit) ≡ now (src .entry) ⌝ }

@@ -1,13 +1,11 @@
 -- A sane lag's integer is a natural number; the test is that of the negated fraction.
 use native.Mathlib.Omega.{arith}
-use mathlib.Core.Bool.{Bool, true, false, cond}
-use mathlib.Core.Path.{_≡_, refl, _∙_, ap}
-use Prim.Native.Nat.{ℕ, _+_, _≤_, _<_}
-use lib.Dec.{T}
-use lib.IntN.{ℤ, pos, negℤ, natAbs, _-ℤ_}
-use lib.Signed.{ltZ, nonNeg}
-use mir.Syntax.{w16, w64}
-use mir.Val.{SFits, Fits, toZ, ofZ}
+use mathlib.Core.Bool.{true, false}
+use mathlib.Core.Path.{_≡_, _∙_}
+use lib.IntN.{pos, negℤ, natAbs}
+use lib.Signed.{ltZ}
+use mir.Syntax.{w16}
+use mir.Val.{toZ, ofZ}
 use mir.ValLaws.{toZ-ofZ}
 use Rattle.fixed.specs.Machine.{sfits-abs}
 use Rattle.pitch.specs.declared.Lag.{Lag}

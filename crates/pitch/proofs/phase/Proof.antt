@@ -1,13 +1,11 @@
 -- The negated fraction, or three more than it, is its residue, which a number without a sign holds.
 use native.Mathlib.Omega.{arith}
-use mathlib.Core.Bool.{true, false}
-use mathlib.Core.Path.{_≡_, refl, _∙_, ap}
-use Prim.Native.Nat.{ℕ, _<_}
+use mathlib.Core.Path.{_≡_, _∙_, ap}
 use lib.Dec.{T}
 use lib.IntN.{ℤ, pos, negℤ, natAbs, _+ℤ_, _-ℤ_}
-use lib.Signed.{ltZ, nonNeg}
+use lib.Signed.{nonNeg}
 use mir.Syntax.{w16, w64}
-use mir.Val.{SFits, Fits, toZ, ofZ}
+use mir.Val.{Fits, toZ, ofZ}
 use mir.ValLaws.{toZ-ofZ}
 use Rattle.fixed.specs.Fixed.{residue}
 use Rattle.fixed.specs.Wrap.{residue-lt}

@@ -2,10 +2,9 @@
 use borrow.Author.Needs.{needs}
 use native.Mathlib.Omega.{arith}
 use mathlib.Core.Path.{_≡_, refl, _∙_, ap}
-use mathlib.Core.List.{List}
-use Prim.Native.Nat.{ℕ, _+_, _-_, _≤_, _<_}
+use Prim.Native.Nat.{_+_, _-_, _≤_, _<_}
 use lib.IntN.{ℤ, pos}
-use lib.ListN.{length, set, length-set}
+use lib.ListN.{length, length-set}
 use mir.Syntax.{w16, w64}
 use mir.Val.{toZ, ofZ}
 use Rattle.sequence.specs.Rewritten.{rewritten, rewritten-again, rewritten-end}

@@ -1,10 +1,10 @@
 -- The guarded innovation is rewritten and copied back; where nothing is to be rewritten it stays.
 use borrow.Author.Needs.{needs}
 use native.Mathlib.Omega.{arith}
-use mathlib.Core.Path.{_≡_, refl, sym, _∙_, ap}
+use mathlib.Core.Path.{_≡_, sym, _∙_, ap}
 use mathlib.Core.List.{List}
-use Prim.Native.Nat.{ℕ, _+_, _-_, _≤_, _<_}
-use lib.IntN.{ℤ, pos}
+use Prim.Native.Nat.{_+_, _-_, _≤_}
+use lib.IntN.{ℤ}
 use lib.ListN.{length, take, drop}
 use lib.Seq.{take-all}
 use mir.Syntax.{w16}

@@ -2,8 +2,8 @@
 use borrow.Author.Needs.{needs}
 use native.Mathlib.Omega.{arith}
 use mathlib.Core.Path.{_≡_, _∙_, ap}
-use Prim.Native.Nat.{ℕ, _+_, _/_, _≤_, _<_}
-use lib.IntN.{ℤ, pos, natAbs, _+ℤ_}
+use Prim.Native.Nat.{ℕ, _+_}
+use lib.IntN.{ℤ, pos, _+ℤ_}
 use mir.Syntax.{w16, w64}
 use mir.Val.{SFits, toZ, ofZ}
 use mir.ValLaws.{toZ-ofZ, toZ-pos}
