@@ -3,7 +3,6 @@ use mathlib.Core.Path.{_≡_, refl}
 use Prim.Native.Nat.{_^_, _-_, _*_}
 use lib.IntN.{pos, negsuc}
 use lib.Count.{leadingZeros}
-use Rattle.sequence.specs.Repeated.{repeated}
 use Rattle.fixed.specs.Fixed.{residue, signed, wrap, clamp, acc, fold, sat, trunc32, hi, mul32x16, shift, exp, restoringStep, restoringDivide, sizeReciprocal, normalisedReciprocal}
 
 -- 9: the accumulator wraps, at the top and below the bottom
@@ -39,7 +38,7 @@ exp-wide = refl
 
 -- 14: the reciprocal of zero, in whose steps the accumulator wraps
 case-14 : hi (normalisedReciprocal (pos 0) .quotient) ≡ pos 32736
-unfolding normalisedReciprocal sizeReciprocal restoringDivide repeated restoringStep clamp fold shift exp wrap signed residue leadingZeros
+unfolding normalisedReciprocal sizeReciprocal restoringDivide restoringStep clamp fold shift exp wrap signed residue leadingZeros
 case-14 = refl
 
 case-14-shift : normalisedReciprocal (pos 0) .shift ≡ pos 1
@@ -48,7 +47,7 @@ case-14-shift = refl
 
 -- of -3, which is normalised by 29 bits: the high half of 3 · 2 ^ 29 is 24576, and 16383 · 2 ^ 15 / 24576 is 21844
 reciprocal-minus-three : normalisedReciprocal (negsuc 2) ≡ record { quotient = negsuc (21844 * 65536 - 1); shift = pos 30 }
-unfolding normalisedReciprocal sizeReciprocal restoringDivide repeated restoringStep clamp fold shift exp wrap signed residue leadingZeros
+unfolding normalisedReciprocal sizeReciprocal restoringDivide restoringStep clamp fold shift exp wrap signed residue leadingZeros
 reciprocal-minus-three = refl
 
 -- only `sat` saturates

@@ -77,6 +77,7 @@ restoringStep num den =
 
 -- as many steps, one after the other
 unfoldable pub restoringDivide : ℤ → ℤ → ℕ → ℤ
+unfolding repeated
 restoringDivide num den n = repeated (λ k x. restoringStep x den) n num
 
 -- 16383 by the high half of n's size, in 15 steps: the quotient's low 16 bits, moved to the high half

@@ -3,6 +3,7 @@ pub mod Fixed
 pub mod Cases
 pub mod Integers
 pub mod Abs
+pub mod Residue
 pub mod Wrap
 pub mod Quotients
 pub mod Machine

@@ -17,7 +17,8 @@ use mir.Val.{SFits, Fits, toZ, ofZ, sel, bits, hbits}
 use mir.ValLaws.{pow-bits, toZ-ofZ, toZ-pos, sfits-le, toZ-fits, ofZ-toZ, fits-wrap}
 use Rattle.fixed.specs.Fixed.{residue, signed, wrap}
 use Rattle.fixed.specs.Abs.{mag≤abs, abs≤mag, nonneg-is}
-use Rattle.fixed.specs.Wrap.{compl-digits, residue-lt, residue-up, residue-mul, mod-times, wrap-cong, mag-wrap}
+use Rattle.fixed.specs.Residue.{compl-digits, residue-up, residue-mul, mod-times}
+use Rattle.fixed.specs.Wrap.{residue-lt, wrap-cong, mag-wrap}
 
 -- ---- the range of a width
 pub sfits-abs : (w : Width) (z : ℤ) → natAbs z < 2 ^ hbits w → SFits w z

@@ -13,7 +13,8 @@ use Rattle.fixed.specs.Fixed.{residue, signed, wrap, fold, acc, low, hi,
 use Rattle.fixed.specs.Integers.{sub-below, minus-plus, mul-add, mul-mul}
 use Rattle.fixed.specs.Quotients.{shr-add, shr-scale}
 use Rattle.fixed.specs.Abs.{abs-mul-le, abs-shr, abs-shr-by}
-use Rattle.fixed.specs.Wrap.{compl-digits, residue-lt, residue-wrap, wrap-id, acc-fits}
+use Rattle.fixed.specs.Residue.{compl-digits}
+use Rattle.fixed.specs.Wrap.{residue-lt, residue-wrap, wrap-id, acc-fits}
 use Rattle.fixed.specs.Bounds.{abs-hi, abs-trunc32}
 use Rattle.fixed.specs.Sums.{fold-fits}
 

@@ -4,35 +4,63 @@ use native.Mathlib.Numerals.{add-one}
 use mathlib.Core.List.{List, [], _∷_, _++_}
 use mathlib.Core.Path.{_≡_, ap, sym, _∙_}
 use lib.IntN.{ℤ, pos}
-use lib.ListN.{getD, length, take, drop, set, length-append}
-use lib.Seq.{take-add, drop-at, length-take-le, take-suc-set, drop-append-le}
+use lib.ListN.{getD, length, take, drop, set, length-append, length-set, drop-of-length-le}
+use lib.Seq.{take-add, drop-at, length-take-le, take-suc-set, drop-append-le, take-at, take-all}
 use Prim.Native.Nat.{ℕ, zero, suc, _≤_, _<_, _-_, _+_}
-use Rattle.synth.specs.Synth.{sample, window}
+use Rattle.synth.specs.Synth.{sample, window, synthesis, memory}
 
-pub length-window : (a m xs : List ℤ) (n : ℕ) → length m ≡ 10 → length (window a m xs n) ≡ n + 10
+length-window : (a m xs : List ℤ) (n : ℕ) → length m ≡ 10 → length (window a m xs n) ≡ n + 10
 unfolding window
 length-window a m xs zero e = e
 length-window a m xs (suc n) e = simp length-append (omega (arith, length-window a m xs n e))
 
+window-more : (a m xs : List ℤ) (n : ℕ) → window a m xs (n + 1) ≡ window a m xs n ++ (sample a (drop n (window a m xs n)) (getD xs n (pos 0)) ∷ [])
+unfolding window
+window-more a m xs n = rw (add-one n)
+
 -- the ten from n on, as a part of the array and as the last of those so far
-pub last-ten : (W : List ℤ) (n : ℕ) → n + 10 ≤ length W → take (n + 10 - n) (drop n W) ≡ drop n (take (n + 10) W)
+last-ten : (W : List ℤ) (n : ℕ) → n + 10 ≤ length W → take (n + 10 - n) (drop n W) ≡ drop n (take (n + 10) W)
 last-ten W n h =
     let e : n + 10 - n ≡ 10 = omega arith in
     rw e (sym (ap (drop n) (take-add n 10 W) ∙ drop-at (take n W) (take 10 (drop n W)) n (length-take-le n W (omega arith))))
 
-module _ (a m xs W O : List ℤ) (n : ℕ) (y : ℤ) (sized : length m ≡ 10) (fit : n + 10 < length W) (so-far : take (n + 10) W ≡ window a m xs n)
-    (next : y ≡ sample a (take (n + 10 - n) (drop n W)) (getD xs n (pos 0))) where
-  one-more : window a m xs (n + 1) ≡ window a m xs n ++ (y ∷ [])
+-- what the loop has done by turn n, for a block of at most 80
+abbrev pub Filtered : List ℤ → List ℤ → List ℤ → List ℤ → List ℤ → ℕ → Type 0
+Filtered a m xs W O n =
+    (n ≤ length xs) × (length W ≡ 90) × (take (n + 10) W ≡ window a m xs n) × (length O ≡ length xs) × (take n O ≡ drop 10 (window a m xs n))
+
+module _ (a m xs : List ℤ) (sized : length m ≡ 10) where
+  -- where the loop begins: the memory, and 80 places after it
+  pub filtered-none : (D R O : List ℤ) → D ≡ m → length R ≡ 80 → length O ≡ length xs → Filtered a m xs (D ++ R) O 0
   unfolding window
-  one-more = rw (add-one n) (ap (λ (z : ℤ). window a m xs n ++ (z ∷ []))
-      (sym (next ∙ ap (λ (h : List ℤ). sample a h (getD xs n (pos 0))) (last-ten W n (omega arith) ∙ ap (drop n) so-far))))
+  filtered-none D R O e r o =
+      let d : length D ≡ 10 = ap length e ∙ sized in
+      (omega arith, length-append D R ∙ omega arith, take-at D R 10 d ∙ e, o, sym (drop-of-length-le m {i = 10} (omega arith)))
 
-  pub window-more : take (n + 1 + 10) (set W (n + 10) y) ≡ window a m xs (n + 1)
-  window-more =
-      let e : n + 1 + 10 ≡ suc (n + 10) = omega arith in
-      rw e (take-suc-set W (n + 10) y fit ∙ ap (λ (l : List ℤ). l ++ (y ∷ [])) so-far ∙ sym one-more)
+  -- a turn of the loop: y goes to the next place of both
+  pub filtered-more : (W O : List ℤ) (n : ℕ) (y : ℤ) → length xs ≤ 80 → Filtered a m xs W O n → n < length xs →
+      y ≡ sample a (take (n + 10 - n) (drop n W)) (getD xs n (pos 0)) → Filtered a m xs (set W (n + 10) y) (set O n y) (n + 1)
+  filtered-more W O n y short f p next = (omega arith, length-set W (n + 10) y ∙ f .1, grown, length-set O n y ∙ f .3, written)
+    where
+      one-more : window a m xs (n + 1) ≡ window a m xs n ++ (y ∷ [])
+      one-more =
+          window-more a m xs n
+          ∙ ap (λ (z : ℤ). window a m xs n ++ (z ∷ [])) (sym (next ∙ ap (λ (h : List ℤ). sample a h (getD xs n (pos 0))) (last-ten W n (omega arith) ∙ ap (drop n) (f .2))))
 
-  pub output-more : n < length O → take n O ≡ drop 10 (window a m xs n) → take (n + 1) (set O n y) ≡ drop 10 (window a m xs (n + 1))
-  output-more p e =
-      rw (add-one n) (take-suc-set O n y p ∙ ap (λ (l : List ℤ). l ++ (y ∷ [])) e ∙ sym (drop-append-le 10 (window a m xs n) (y ∷ []) (omega (arith, length-window a m xs n sized))))
-      ∙ ap (drop 10) (sym one-more)
+      grown : take (n + 1 + 10) (set W (n + 10) y) ≡ window a m xs (n + 1)
+      grown =
+          let e : n + 1 + 10 ≡ suc (n + 10) = omega arith in
+          rw e (take-suc-set W (n + 10) y (omega arith) ∙ ap (λ (l : List ℤ). l ++ (y ∷ [])) (f .2) ∙ sym one-more)
+
+      written : take (n + 1) (set O n y) ≡ drop 10 (window a m xs (n + 1))
+      written =
+          rw (add-one n) (take-suc-set O n y (omega arith) ∙ ap (λ (l : List ℤ). l ++ (y ∷ [])) (f .4) ∙ sym (drop-append-le 10 (window a m xs n) (y ∷ []) (omega (arith, length-window a m xs n sized))))
+          ∙ ap (drop 10) (sym one-more)
+
+  -- where the loop ends
+  pub filtered-end : (W O : List ℤ) (n : ℕ) → length xs ≤ 80 → Filtered a m xs W O n → length xs ≤ n →
+      (O ≡ synthesis a m xs) × (take (length xs + 10 - length xs) (drop (length xs) W) ≡ memory a m xs)
+  unfolding synthesis memory
+  filtered-end W O n short f p =
+      let e : n ≡ length xs = omega arith in
+      (sym (take-all (length xs) O (omega arith)) ∙ rw e at (f .4), last-ten W (length xs) (omega arith) ∙ ap (drop (length xs)) (rw e at (f .2)))

@@ -1,27 +1,20 @@
 -- The array's first n + 10 places are the window after n outputs, and the outputs so far are its rest.
 use borrow.Author.Needs.{needs}
 use native.Mathlib.Omega.{arith}
-use mathlib.Core.Path.{_≡_, refl, _∙_, ap, sym}
-use lib.IntN.{ℤ, pos}
-use lib.ListN.{length, getD, take, drop, length-set, length-append, drop-of-length-le}
-use lib.Seq.{take-at, take-all}
-use Prim.Native.Nat.{ℕ, _≤_, _-_, _+_}
+use mathlib.Core.Path.{_≡_, refl, _∙_}
+use lib.IntN.{pos}
+use lib.ListN.{length, getD, take, drop}
+use Prim.Native.Nat.{_-_, _+_}
 use mir.Syntax.{w16}
 use mir.Val.{toZ, ofZ}
 use Rattle.synth.specs.Synth as Synth
 use Rattle.fixed.specs.Machine.{back}
-use Rattle.synth.proofs.Window.{last-ten, window-more, output-more}
+use Rattle.synth.proofs.Window.{Filtered, filtered-none, filtered-more, filtered-end}
 use Rattle.synth.proofs.synthesis.Statement.{statement}
 use Rattle.synth.proofs.synthesis.Tie as tie
 
 abbrev Inv-loop : tie.InvT-loop
-Inv-loop a input output₀ mem window₀ count n₀ output window n =
-    (count ≡ length input)
-    × (n ≤ count)
-    × (length window ≡ 90)
-    × (take (n + 10) window ≡ Synth.window a mem input n)
-    × (length output ≡ length input)
-    × (take n output ≡ drop 10 (Synth.window a mem input n))
+Inv-loop a input output₀ mem window₀ count n₀ output window n = (count ≡ length input) × Filtered a mem input window output n
 
 abbrev μ-loop : tie.MeasureT-loop
 μ-loop a input output₀ mem window₀ count n₀ output window n = count - n
@@ -36,14 +29,9 @@ copy-requires : tie.Need-copy-requires Inv-loop μ-loop
 copy-requires c κs = search needs
 
 loop-holds : tie.Need-loop-holds Inv-loop μ-loop
-unfolding Synth.window
 loop-holds c =
     let b = c .before .before .before .before in
-    let D = c .before .copy .last .0 in
-    let m = b .args .mem .now in
-    let e : D ≡ m = c .before .copy .ensures in
-    let d : length D ≡ 10 = ap length e ∙ b .pre .0 .1 in
-    (refl, omega arith, length-append D _ ∙ ap (λ (k : ℕ). k + 80) d, take-at D _ 10 d ∙ e, b .pre .1 .1, sym (drop-of-length-le m {i = 10} (omega (arith, b .pre .0 .1))))
+    (refl, filtered-none (b .args .a .now) (b .args .mem .now) (b .args .input .now) (b .pre .0 .1) (c .before .copy .last .0) _ (b .args .output .now) (c .before .copy .ensures) refl (b .pre .1 .1))
 
 add-end : tie.Need-add-end Inv-loop μ-loop
 add-end c = search needs
@@ -91,21 +79,11 @@ loop-again : tie.Need-loop-again Inv-loop μ-loop
 loop-again c =
     let l = c .before .before .before .before .before in
     let b = l .before .before .before .before .before in
-    let a = b .args .a .now in
-    let m = b .args .mem .now in
     let xs = b .args .input .now in
-    let W = l .loop .window in
     let n = l .loop .n in
-    let y : ℤ = toZ w16 (ofZ w16 (c .sample .result)) in
-    let next : y ≡ Synth.sample a (take (n + 10 - n) (drop n W)) (getD xs n (pos 0)) =
-    back w16 (c .sample .result) (c .sample .ok) ∙ simp (back w16 (getD xs n (pos 0)) (c .before .sample-arg2 .given)) at (c .sample .ensures) in (
-      refl,
-      omega arith,
-      length-set W (n + 10) y ∙ l .loop .inv .2,
-      window-more a m xs W (l .loop .output) n y (b .pre .0 .1) (omega arith) (l .loop .inv .3) next,
-      length-set (l .loop .output) n y ∙ l .loop .inv .4,
-      output-more a m xs W (l .loop .output) n y (b .pre .0 .1) (omega arith) (l .loop .inv .3) next (omega arith) (l .loop .inv .5),
-    )
+    let next : toZ w16 (ofZ w16 (c .sample .result)) ≡ Synth.sample (b .args .a .now) (take (n + 10 - n) (drop n (l .loop .window))) (getD xs n (pos 0)) =
+    back w16 (c .sample .result) (c .sample .ok) ∙ simp (back w16 (getD xs n (pos 0)) (c .before .sample-arg2 .given)) at (c .sample .ensures) in
+    (refl, filtered-more (b .args .a .now) (b .args .mem .now) xs (b .pre .0 .1) (l .loop .window) (l .loop .output) n _ (b .pre .1 .0) (l .loop .inv .1) (omega arith) next)
 
 add-last : tie.Need-add-last Inv-loop μ-loop
 add-last c = search needs
@@ -132,18 +110,11 @@ same-length-2 : tie.Need-same-length-2 Inv-loop μ-loop
 same-length-2 c = search needs
 
 returns : tie.Need-returns Inv-loop μ-loop
-unfolding Synth.synthesis Synth.memory
 returns c =
     let l = c .before .before .before .before .before .before in
     let b = l .before .before .before .before .before in
-    let a = b .args .a .now in
-    let m = b .args .mem .now in
-    let xs = b .args .input .now in
-    let W = l .loop .window in
-    let e : l .loop .n ≡ length xs = omega arith in (
-      sym (take-all (length xs) (l .loop .output) (omega arith)) ∙ rw e at (l .loop .inv .5),
-      c .before .copy2 .ensures ∙ last-ten W (length xs) (omega arith) ∙ ap (drop (length xs)) (rw e at (l .loop .inv .3)),
-    )
+    let done = filtered-end (b .args .a .now) (b .args .mem .now) (b .args .input .now) (b .pre .0 .1) (l .loop .window) (l .loop .output) (l .loop .n) (b .pre .1 .0) (l .loop .inv .1) (omega arith) in
+    (done .0, c .before .copy2 .ensures ∙ done .1)
 
 pub synthesis-spec : {M : Type 1} → statement M
 synthesis-spec =
