@@ -10,7 +10,7 @@ use borrow.Author.Tests.{le-leb, lt-leb}
 use Rattle.sequence.specs.First.{first, firstFrom, first-more, first-found}
 use Rattle.tables.specs.Tables.{base}
 use Rattle.codebook.specs.Sound.{SoundWords}
-use Rattle.codebook.specs.Codebook.{class}
+use Rattle.codebook.specs.Codebook.{classOf}
 
 module _ (words : List ℤ) (index : ℕ) where
   abbrev reached : ℕ → Bool
@@ -30,8 +30,8 @@ module _ (words : List ℤ) (index : ℕ) where
       let t : reached (5 - k) ≡ false = lt-leb (base words (5 - (5 - k))) index (rw e h) in
       (omega arith, a .1 ∙ first-more reached (5 - k) 6 (omega arith) t ∙ ap (λ (n : ℕ). firstFrom reached n (6 - n)) f)
 
-  pub above-found : (k : ℕ) → Above k → base words k ≤ index → k ≡ class words index
-  unfolding class
+  pub above-found : (k : ℕ) → Above k → base words k ≤ index → k ≡ classOf words index
+  unfolding classOf
   above-found k a h =
       let e : 5 - (5 - k) ≡ k = omega arith in
       let t : reached (5 - k) ≡ true = le-leb (base words (5 - (5 - k))) index (rw e h) in

@@ -10,11 +10,11 @@ use Rattle.sequence.specs.Rewritten.{rewritten}
 use Rattle.sequence.specs.Table.{table}
 use Rattle.fixed.specs.Fixed.{residue, signed, wrap}
 use Rattle.tables.specs.Bare.{bareWords, fromLimit, fromBases, fromPulses, fromSelectors, fromEntries}
-use Rattle.codebook.specs.Codebook.{cut, class, classify, added, quotient, remainder, above, digit, decompose, sum, placeShape, silence, placePulse, placePulses, alternative, innovation, decode, slotsFit, placeFits, digitsFit}
+use Rattle.codebook.specs.Codebook.{cut, classOf, classify, added, quotient, remainder, above, digit, decompose, sum, placeShape, silence, placePulse, placePulses, alternative, innovation, decode, slotsFit, placeFits, digitsFit}
 
 -- 15: of the bare set, index 0: ten pulses of 8192 at place 0, whose sum 81,920 wraps
 case-15 : decode bareWords 0 ≡ record { code = pos 16384 ∷ replicate 79 (pos 0); class = 5 }
-unfolding decode innovation alternative placePulses placePulse sum repeated classify class cut firstFrom wrap signed residue bareWords fromLimit fromBases fromPulses fromSelectors fromEntries
+unfolding decode innovation alternative placePulses placePulse sum repeated classify classOf cut firstFrom wrap signed residue bareWords fromLimit fromBases fromPulses fromSelectors fromEntries
 case-15 = refl
 
 -- its limit is 1: every index is cut to 0
@@ -38,12 +38,12 @@ signs = (refl, refl)
 
 -- an inverse that is rounded down leaves a digit of 40
 too-large : digitsFit (only (pos 40) (pos 3277) (pos 40) (pos 3276)) 160 ≡ false
-unfolding only digitsFit placeFits slotsFit classify class cut firstFrom decompose digit above quotient remainder repeated table wrap signed residue
+unfolding only digitsFit placeFits slotsFit classify classOf cut firstFrom decompose digit above quotient remainder repeated table wrap signed residue
 too-large = refl
 
 -- 16383 - 4095 · 4117 is -16,842,732, which passes 40 bits in the high half; wrapped to 16 bits it is 20, and the index is accepted
 wrapped : digitsFit (only (pos 40) (pos 3277) (pos 4117) (pos 32767)) 65532 ≡ true
-unfolding only digitsFit placeFits slotsFit classify class cut firstFrom decompose digit above quotient remainder repeated table wrap signed residue
+unfolding only digitsFit placeFits slotsFit classify classOf cut firstFrom decompose digit above quotient remainder repeated table wrap signed residue
 wrapped = refl
 
 wrapped-digits : decompose (only (pos 40) (pos 3277) (pos 4117) (pos 32767)) 0 65532 ≡ pos 15 ∷ pos 20 ∷ pos 0 ∷ []

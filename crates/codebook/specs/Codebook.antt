@@ -22,14 +22,14 @@ unfoldable pub cut : List ℤ → ℕ → ℕ
 cut words index = min index (limit words - 1)
 
 -- the class: the first, from 5 down, whose base the index reaches
-unfoldable pub class : List ℤ → ℕ → ℕ
-class words index = 5 - first (λ k. leb (base words (5 - k)) index) 6
+unfoldable pub classOf : List ℤ → ℕ → ℕ
+classOf words index = 5 - first (λ k. leb (base words (5 - k)) index) 6
 
 -- the class, and the place within it
 unfoldable pub classify : List ℤ → ℕ → Classified
 classify words index =
     let i : ℕ = cut words index in
-    record { class = class words i; rest = i - base words (class words i) }
+    record { class = classOf words i; rest = i - base words (classOf words i) }
 
 -- ---- classes 0 to 4: what is left of the index is a sign for each pulse, lowest bit first, and above them a number in mixed radix, whose digits are the pulses'
 -- how many pulses a class has
@@ -40,7 +40,7 @@ pulses words class = unsignedWord words (FCB-PULSES + class)
 unfoldable pub added : ℕ → ℕ → Bool
 added rest k = eqb (rest / 2 ^ k % 2) 1
 
--- the radix of digit k, and its inverse, in units of 2 ^ -17
+-- the radix of digit k, and its inverse, which is 2 ^ 17 by the radix
 abbrev pub radix : List ℤ → ℕ → ℕ → ℤ
 radix words class k = word words (FCB-RADIX + 3 * class + k)
 
@@ -84,23 +84,28 @@ unfoldable pub placeSlot : List ℤ → ℕ → ℕ → ℤ → Bool → List �
 placeSlot words class k slot add code =
     placeShape words (unsignedWord words (FCB-SHAPE-SEL + 3 * class) + k) (unsignedWord words (FCB-POSITIONS + (40 * (3 * class + k) + mag slot))) add code
 
+-- pulse k, with its digit and its sign
 abbrev pub placePosition : List ℤ → ℕ → List ℤ → ℕ → ℕ → List ℤ → List ℤ
 placePosition words class positions rest k code = placeSlot words class k (getD positions k (pos 0)) (added rest k) code
 
+-- the pulses of a class, one after the other
 unfoldable pub placeShapes : List ℤ → ℕ → List ℤ → ℕ → List ℤ → List ℤ
 placeShapes words class positions rest code = repeated (placePosition words class positions rest) (pulses words class) code
 
--- ---- class 5: a pulse of 8192 for each of five entries, whose size is a place counted from 1 and whose sign is the pulse's
+-- ---- class 5: two rows of five entries
+-- a pulse of 8192: an entry's size is its place, counted from 1, and the entry's sign is the pulse's
 unfoldable pub placePulse : ℤ → List ℤ → List ℤ
 placePulse entry code = set code (natAbs entry - 1) (sum (ltZ (pos 0) entry) (getD code (natAbs entry - 1) (pos 0)) (pos 8192))
 
+-- entry k of the row that starts at a word
 abbrev pub placeEntry : List ℤ → ℕ → ℕ → List ℤ → List ℤ
 placeEntry words row k code = placePulse (word words (row + k)) code
 
+-- the five of a row
 unfoldable pub placePulses : List ℤ → ℕ → List ℤ → List ℤ
 placePulses words row code = repeated (placeEntry words row) 5 code
 
--- five of the first book, and five of the second, which the low seven bits choose
+-- a row of the first book, and one of the second, which the low seven bits choose
 unfoldable pub alternative : List ℤ → ℕ → List ℤ → List ℤ
 alternative words rest code = placePulses words (FCB-ALT-B + 5 * (rest % 128)) (placePulses words (FCB-ALT-A + 5 * (rest / 128)) code)
 
@@ -109,22 +114,28 @@ alternative words rest code = placePulses words (FCB-ALT-B + 5 * (rest % 128)) (
 abbrev pub silence : List ℤ
 silence = replicate 80 (pos 0)
 
+-- what a class and a place within it stand for
 unfoldable pub innovation : List ℤ → Classified → Innovation
 innovation words c =
     record { code = cond (eqb (c .class) 5) (alternative words (c .rest) silence) (placeShapes words (c .class) (decompose words (c .class) (c .rest)) (c .rest) silence); class = c .class }
 
+-- what an index stands for
 unfoldable pub decode : List ℤ → ℕ → Innovation
 decode words index = innovation words (classify words index)
 
--- ---- what refusal 7 asks: in classes 0 to 4 each digit is one of the 40 positions
+-- ---- what refusal 7 asks
+-- a digit is one of the 40 positions
 abbrev pub slotFits : ℤ → Bool
 slotFits slot = between (pos 0) (pos 39) slot
 
+-- each of the three is; where there is no pulse it is 0
 unfoldable pub slotsFit : List ℤ → Bool
 slotsFit positions = slotFits (getD positions 0 (pos 0)) && slotFits (getD positions 1 (pos 0)) && slotFits (getD positions 2 (pos 0))
 
+-- in classes 0 to 4 the digits fit, and class 5 has none
 unfoldable pub placeFits : List ℤ → Classified → Bool
 placeFits words c = cond (eqb (c .class) 5) true (slotsFit (decompose words (c .class) (c .rest)))
 
+-- an index passes
 unfoldable pub digitsFit : List ℤ → ℕ → Bool
 digitsFit words index = placeFits words (classify words index)

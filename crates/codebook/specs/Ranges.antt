@@ -18,12 +18,12 @@ use Rattle.tables.specs.Places.{FCB-SHAPE-SEL}
 use Rattle.tables.specs.Tables.{unsignedWord, base, entry}
 use Rattle.codebook.specs.declared.Classified.{Classified}
 use Rattle.codebook.specs.Sound.{SoundWords, pulses-within}
-use Rattle.codebook.specs.Codebook.{class, cut, classify, pulses, digit, decompose, slotFits, slotsFit, placeFits, digitsFit}
+use Rattle.codebook.specs.Codebook.{classOf, cut, classify, pulses, digit, decompose, slotFits, slotsFit, placeFits, digitsFit}
 
 -- ---- the class
 -- there is none above 5
-pub class-at-most : (words : List ℤ) (index : ℕ) → class words index ≤ 5
-unfolding class
+pub class-at-most : (words : List ℤ) (index : ℕ) → classOf words index ≤ 5
+unfolding classOf
 class-at-most words index = omega arith
 
 pub class-below : (words : List ℤ) (index : ℕ) (c : Classified) → c ≡ classify words index → (c .class ≡ 5 → ⊥) → c .class < 5
@@ -31,8 +31,8 @@ unfolding classify
 class-below words index c e n = let h : c .class ≤ 5 = rw e (class-at-most words (cut words index)) in omega arith
 
 -- the index reaches its class's base
-pub class-reached : (words : List ℤ) (index : ℕ) → SoundWords words → base words (class words index) ≤ index
-unfolding class
+pub class-reached : (words : List ℤ) (index : ℕ) → SoundWords words → base words (classOf words index) ≤ index
+unfolding classOf
 class-reached words index s =
     let f : ℕ → Bool = λ k. leb (base words (5 - k)) index in
     ⊎-elim

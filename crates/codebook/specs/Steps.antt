@@ -14,7 +14,8 @@ use Rattle.fixed.specs.Integers.{mul-add, neg-mul, mul-mul}
 use Rattle.fixed.specs.Products.{halves}
 use Rattle.fixed.specs.Quotients.{shr-unique}
 use Rattle.fixed.specs.Shifts.{shift-down}
-use Rattle.fixed.specs.Wrap.{up, residue-lt, residue-up, residue-wrap, wrap-cong, wrap-id, acc-fits}
+use Rattle.fixed.specs.Residue.{up, residue-up}
+use Rattle.fixed.specs.Wrap.{residue-lt, residue-wrap, wrap-cong, wrap-id, acc-fits}
 use Rattle.codebook.specs.Codebook.{radix, inverse, quotient, remainder, sum}
 
 -- ---- a wrap to more bits is not seen by one to fewer

@@ -44,11 +44,12 @@ pub struct Innovation {
 }
 
 // The class of an index, and its place within the class.
-pub struct Classified {
+struct Classified {
     pub class: usize,
     pub rest: u16,
 }
 
+// The index, cut to the limit less one.
 fn cut(words: &[i16], index: u16) -> u16
     requires { ⌜ SoundWords (now words) ⌝ }
     ensures { λ r. ⌜ r ≡ Codebook.cut (now (words .entry)) index ⌝ }
@@ -57,10 +58,10 @@ fn cut(words: &[i16], index: u16) -> u16
     if index < last { index } else { last }
 }
 
-// A cut index's class.
+// A cut index's class: the first, from the highest down, whose base it reaches.
 fn class_of(words: &[i16], index: u16) -> usize
     requires { ⌜ SoundWords (now words) ⌝ }
-    ensures { λ r. ⌜ r ≡ Codebook.class (now (words .entry)) index ⌝ }
+    ensures { λ r. ⌜ r ≡ Codebook.classOf (now (words .entry)) index ⌝ }
 {
     let mut k = ALT_CLASS;
     loop {
@@ -71,6 +72,7 @@ fn class_of(words: &[i16], index: u16) -> usize
     }
 }
 
+// The class that an index selects.
 fn classify(words: &[i16], index: u16) -> Classified
     requires { ⌜ SoundWords (now words) ⌝ }
     ensures { λ r. ⌜ r ≡ Codebook.classify (now (words .entry)) index ⌝ }
@@ -102,6 +104,7 @@ fn remainder(words: &[i16], class: usize, k: usize, x: i16) -> i16
     fixed::low((x as i64) - (q as i64) * (y as i64))
 }
 
+// How many pulses a class has.
 fn pulses(words: &[i16], class: usize) -> usize
     requires { ⌜ length (now words) ≡ 5963 ⌝ ∗ ⌜ class < 5 ⌝ }
     ensures { λ r. ⌜ r ≡ Codebook.pulses (now (words .entry)) class ⌝ }
@@ -126,6 +129,7 @@ fn decompose(words: &[i16], class: usize, rest: u16) -> [i16; MAX_PULSES]
     positions
 }
 
+// y added to x, or subtracted; it wraps.
 fn sum(add: bool, x: i16, y: i16) -> i16
     ensures { λ r. ⌜ r ≡ Codebook.sum add x y ⌝ }
 {
@@ -149,6 +153,7 @@ fn span(start: usize) -> usize
     0
 }
 
+// A shape, from place start on, cut at the end.
 fn place_shape(words: &[i16], shape: usize, start: usize, add: bool, code: &mut [i16; SUBFRAME])
     requires { ⌜ length (now words) ≡ 5963 ⌝ ∗ ⌜ shape < 32 ⌝ }
     ensures { λ _. ⌜ now (code .exit) ≡ Codebook.placeShape (now (words .entry)) shape start add (now (code .entry)) ⌝ }
@@ -190,6 +195,7 @@ fn place_slot(
     place_shape(words, shape, start, add, code);
 }
 
+// The pulses of a class: a set sign bit adds the shape, a zero one subtracts it.
 fn place_shapes(
     words: &[i16],
     class: usize,
@@ -220,6 +226,7 @@ fn place_of(entry: i16) -> usize
     }
 }
 
+// One pulse of the twin book.
 fn place_pulse(entry: i16, code: &mut [i16; SUBFRAME])
     requires { ⌜ 1 ≤ natAbs entry ⌝ ∗ ⌜ natAbs entry ≤ 80 ⌝ }
     ensures { λ _. ⌜ now (code .exit) ≡ Codebook.placePulse entry (now (code .entry)) ⌝ }
@@ -229,6 +236,7 @@ fn place_pulse(entry: i16, code: &mut [i16; SUBFRAME])
     code[at] = y;
 }
 
+// The five pulses of a row, which is of either book.
 fn place_pulses(words: &[i16], row: usize, code: &mut [i16; SUBFRAME])
     requires { ⌜ SoundWords (now words) ⌝ ∗ ⌜ 1483 ≤ row ⌝ ∗ ⌜ row + 5 ≤ 4683 ⌝ }
     ensures { λ _. ⌜ now (code .exit) ≡ Codebook.placePulses (now (words .entry)) row (now (code .entry)) ⌝ }
@@ -255,6 +263,7 @@ fn slot_fits(slot: i16) -> bool
     if 0 <= slot { slot <= 39 } else { false }
 }
 
+// Whether all are. Where there is no pulse the digit is 0.
 fn slots_fit(positions: [i16; MAX_PULSES]) -> bool
     ensures { λ r. ⌜ r ≡ Codebook.slotsFit positions ⌝ }
 {
@@ -280,6 +289,7 @@ pub fn digits_fit(words: &[i16], index: u16) -> bool
     slots_fit(decompose(words, class, c.rest))
 }
 
+// The innovation of an index whose digits fit.
 pub fn decode(words: &[i16], index: u16) -> Innovation
     requires { ⌜ SoundWords (now words) ⌝ ∗ ⌜ Codebook.digitsFit (now words) index ≡ true ⌝ }
     ensures { λ r. ⌜ r ≡ Codebook.decode (now (words .entry)) index ⌝ }

@@ -34,7 +34,7 @@ add-unsigned-word c = omega (arith, small c)
 unsigned-word-requires : tie.Need-unsigned-word-requires
 unsigned-word-requires c κs = omega (arith, small c, c .before .before .pre .words-long)
 
-base-is : (c : tie.After-unsigned-word) → c .unsigned-word .result ≡ Tables.base (words (c .before)) (Codebook.class (words (c .before)) (i (c .before)))
+base-is : (c : tie.After-unsigned-word) → c .unsigned-word .result ≡ Tables.base (words (c .before)) (Codebook.classOf (words (c .before)) (i (c .before)))
 base-is c = c .unsigned-word .ensures ∙ ap (Tables.base (words (c .before))) (c .before .class-of .ensures)
 
 sub-t7 : tie.Need-sub-t7
