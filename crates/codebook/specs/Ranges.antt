@@ -6,19 +6,21 @@ use mathlib.Core.Bool.{Bool, true, false, _&&_, cond, true≢false}
 use mathlib.Core.Logic.{_⊎_, inl, inr, ⊎-elim}
 use native.Mathlib.Omega.{arith}
 use native.Mathlib.Nat.{eq-or-lt-of-le}
-use lib.Dec.{leb, ltb}
-use lib.ListN.{getD}
+use lib.Dec.{leb, ltb, eqb}
+use lib.ListN.{length, getD, length-set}
 use lib.IntN.{ℤ, pos, negsuc, natAbs}
 use lib.Signed.{mag}
 use borrow.Author.Tests.{leb-true, lt-ltb, ne-eqb}
 use Rattle.sequence.specs.All.{and-left, and-right}
 use Rattle.sequence.specs.First.{first, first-at, first-le}
+use Rattle.sequence.specs.Repeated.{repeated, repeated-keeps}
+use Rattle.sequence.specs.Rewritten.{length-rewritten}
 use Rattle.sequence.specs.Table.{getD-table}
 use Rattle.tables.specs.Places.{FCB-SHAPE-SEL}
 use Rattle.tables.specs.Tables.{unsignedWord, base, entry}
 use Rattle.codebook.specs.declared.Classified.{Classified}
 use Rattle.codebook.specs.Sound.{SoundWords, pulses-within}
-use Rattle.codebook.specs.Codebook.{classOf, cut, classify, pulses, digit, decompose, slotFits, slotsFit, placeFits, digitsFit}
+use Rattle.codebook.specs.Codebook.{classOf, cut, classify, pulses, digit, decompose, placeShape, placeSlot, placePosition, placeShapes, placePulse, placeEntry, placePulses, alternative, silence, innovation, decode, slotFits, slotsFit, placeFits, digitsFit}
 
 -- ---- the class
 -- there is none above 5
@@ -115,3 +117,31 @@ module _ (words : List ℤ) (s : SoundWords words) where
   reads-in-range index h e =
       let c : Classified = classify words index in
       ⊎-elim (λ (q : c .class ≡ 5). inr (entries-read c q (rest-lt index h))) (λ (l : c .class < 5). inl (pulses-read c l e)) (eq-or-lt-of-le (class-at-most words (cut words index)))
+
+-- ---- the innovation has 80 samples
+-- a step that keeps the length, repeated, keeps it
+length-repeated : (step : ℕ → List ℤ → List ℤ) → ((k : ℕ) (l : List ℤ) → length (step k l) ≡ length l) → (n : ℕ) (l : List ℤ) → length (repeated step n l) ≡ length l
+length-repeated step h n l = repeated-keeps step (λ (m : List ℤ). length m ≡ length l) (λ k m e. h k m ∙ e) n l refl
+
+length-shapes : (words : List ℤ) (class : ℕ) (positions : List ℤ) (rest : ℕ) (code : List ℤ) → length (placeShapes words class positions rest code) ≡ length code
+unfolding placeShapes placeSlot placeShape
+length-shapes words class positions rest code = length-repeated (placePosition words class positions rest) (λ k l. length-rewritten _ _ l _) (pulses words class) code
+
+length-pulses : (words : List ℤ) (row : ℕ) (code : List ℤ) → length (placePulses words row code) ≡ length code
+unfolding placePulses placePulse
+length-pulses words row code = length-repeated (placeEntry words row) (λ k l. length-set l _ _) 5 code
+
+length-alternative : (words : List ℤ) (rest : ℕ) (code : List ℤ) → length (alternative words rest code) ≡ length code
+unfolding alternative
+length-alternative words rest code = length-pulses words _ _ ∙ length-pulses words _ code
+
+pub length-code : (words : List ℤ) (index : ℕ) → length (decode words index .code) ≡ 80
+unfolding decode innovation
+length-code words index = go (classify words index)
+  where
+    by : (b : Bool) (c : Classified) → length (cond b (alternative words (c .rest) silence) (placeShapes words (c .class) (decompose words (c .class) (c .rest)) (c .rest) silence)) ≡ 80
+    by true c = length-alternative words (c .rest) silence
+    by false c = length-shapes words (c .class) (decompose words (c .class) (c .rest)) (c .rest) silence
+
+    go : (c : Classified) → length (innovation words c .code) ≡ 80
+    go c = by (eqb (c .class) 5) c

@@ -1,3 +1,4 @@
+-- The shift is the division by a power of two.
 use borrow.Author.Needs.{needs}
 use mathlib.Core.Path.{refl}
 use Rattle.codebook.specs.Codebook as Codebook
