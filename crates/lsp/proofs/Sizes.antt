@@ -6,7 +6,7 @@ use Prim.Native.Nat.{ℕ, suc, _+_, _-_, _/_, _≤_}
 use lib.Dec.{ltb}
 use lib.IntN.{ℤ, pos, negsuc, subℕ, _+ℤ_}
 use lib.Signed.{mag}
-use borrow.Author.Tests.{ltb-true, ltb-false}
+use borrow.Author.Tests.{ltb-false}
 use Rattle.lsp.specs.Lsp as Lsp
 
 mag-subℕ : (a b : ℕ) → mag (subℕ a (suc b)) ≤ a + b

@@ -1,24 +1,45 @@
 -- Document 01's marked case 12, and further values worked out from the Rust, computed.
 use mathlib.Core.Path.{_≡_, refl}
-use mathlib.Core.List.{List, [], _∷_}
-use lib.IntN.{ℤ, pos, negsuc}
+use mathlib.Core.List.{[], _∷_}
+use lib.IntN.{pos, negsuc}
 use lib.Count.{leadingZeros}
 use Rattle.sequence.specs.Table.{table}
 use Rattle.sequence.specs.Repeated.{repeated}
 use Rattle.fixed.specs.Fixed.{residue, signed, wrap, clamp, fold, mul, mulUs, mul32x16, shift, exp, restoringStep, restoringDivide, sizeReciprocal, normalisedReciprocal}
-use Rattle.lsp.specs.Lsp.{negated, own, coefficient, product, linear, firstPolynomial, nextPolynomial, lspPolynomial, plus, minus, halved, front, back, predictor, lspToLpc, midway, residual, inverse, exponent, scale, difference, updated, updateAll, step, tail, reflectionCoefficients}
+use Rattle.lsp.specs.Lsp.{position, entry, negated, own, coefficient, product, linear, firstPolynomial, nextPolynomial, lspPolynomial, plus, minus, halved, front, back, predictor, lspToLpc, midway, residual, inverse, exponent, scale, difference, updated, updateAll, step, tail, reflectionCoefficients}
+
+-- the highest LSF that is quantised, and the highest of 16 bits, whose position is beyond the table
+position-quantised : position (pos 25682) ≡ 16349
+unfolding position
+position-quantised = refl
+
+entry-quantised : entry (position (pos 25682)) ≡ 63
+unfolding entry position
+entry-quantised = refl
+
+entry-beyond : entry (position (pos 32767)) ≡ 63
+unfolding entry position
+entry-beyond = refl
 
 -- 12: rounded down
 case-12 : midway (negsuc 2) (negsuc 3) ≡ negsuc 3
 unfolding midway
 case-12 = refl
 
--- an LSP of -32768 at place 0, where its negative is 32768
+-- an LSP of -32768 at place 0, where its negative is 32768, and at place 2, where it is -32768
 lpc-lowest : lspToLpc (negsuc 32767 ∷ pos 0 ∷ pos 0 ∷ pos 0 ∷ pos 0 ∷ pos 0 ∷ pos 0 ∷ pos 0 ∷ pos 0 ∷ pos 0 ∷ []) ≡ pos 4096 ∷ pos 4096 ∷ pos 24576 ∷ pos 16384 ∷ negsuc 8191 ∷ pos 24576 ∷ pos 0 ∷ pos 16384 ∷ negsuc 28671 ∷ pos 4096 ∷ pos 8192 ∷ []
 unfolding lspToLpc predictor front back halved plus minus lspPolynomial nextPolynomial firstPolynomial coefficient own product linear negated table repeated fold mul mulUs mul32x16 shift wrap signed residue
 lpc-lowest = refl
 
--- a first residual of zero, and a negative one at every step
+lpc-lowest-2 : lspToLpc (pos 0 ∷ pos 0 ∷ negsuc 32767 ∷ pos 0 ∷ pos 0 ∷ pos 0 ∷ pos 0 ∷ pos 0 ∷ pos 0 ∷ pos 0 ∷ []) ≡ pos 4096 ∷ negsuc 4095 ∷ pos 16384 ∷ negsuc 16383 ∷ pos 24576 ∷ negsuc 24575 ∷ pos 16384 ∷ negsuc 16383 ∷ pos 4096 ∷ negsuc 4095 ∷ pos 0 ∷ []
+unfolding lspToLpc predictor front back halved plus minus lspPolynomial nextPolynomial firstPolynomial coefficient own product linear negated table repeated fold mul mulUs mul32x16 shift wrap signed residue
+lpc-lowest-2 = refl
+
+-- a first residual of zero, and a negative one
 reflection-zero : reflectionCoefficients (pos 12458 ∷ pos 12 ∷ negsuc 2200 ∷ negsuc 64 ∷ negsuc 0 ∷ pos 119 ∷ negsuc 17 ∷ pos 5 ∷ negsuc 48 ∷ negsuc 13133 ∷ pos 4096 ∷ []) ≡ pos 646 ∷ pos 166 ∷ negsuc 122 ∷ pos 650 ∷ pos 773 ∷ negsuc 26974 ∷ negsuc 4380 ∷ negsuc 3530 ∷ negsuc 13133 ∷ pos 4096 ∷ []
 unfolding reflectionCoefficients tail step updateAll updated difference inverse exponent scale residual table repeated normalisedReciprocal sizeReciprocal restoringDivide restoringStep clamp exp fold mul mulUs mul32x16 shift wrap signed residue leadingZeros
 reflection-zero = refl
+
+reflection-lowest : reflectionCoefficients (pos 4096 ∷ negsuc 32767 ∷ negsuc 32767 ∷ negsuc 32767 ∷ negsuc 32767 ∷ negsuc 32767 ∷ negsuc 32767 ∷ negsuc 32767 ∷ negsuc 32767 ∷ negsuc 32767 ∷ negsuc 32767 ∷ []) ≡ pos 255 ∷ pos 273 ∷ pos 293 ∷ pos 316 ∷ pos 343 ∷ pos 375 ∷ pos 414 ∷ pos 461 ∷ pos 520 ∷ negsuc 32767 ∷ []
+unfolding reflectionCoefficients tail step updateAll updated difference inverse exponent scale residual table repeated normalisedReciprocal sizeReciprocal restoringDivide restoringStep clamp exp fold mul mulUs mul32x16 shift wrap signed residue leadingZeros
+reflection-lowest = refl

@@ -1,8 +1,8 @@
 -- The reciprocal's exponent in the recursion: from -4 to 13 for every coefficient of 16 bits, so that its reading as a signed field of 5 bits changes nothing.
 use native.Mathlib.Omega.{arith}
 use mathlib.Core.Bool.{Bool, true, false}
-use mathlib.Core.Path.{_≡_, refl, sym, ap, _∙_}
-use Prim.Native.Nat.{ℕ, zero, suc, _+_, _-_, _*_, _^_, _≤_, _<_}
+use mathlib.Core.Path.{_≡_, refl, ap, _∙_}
+use Prim.Native.Nat.{ℕ, zero, suc, _-_, _*_, _^_, _≤_, _<_}
 use native.Mathlib.Nat.{mul-le-mul}
 use lib.Dec.{ltb, eqb, le→leb, leb→le}
 use lib.IntN.{ℤ, pos, negsuc, negℤ, natAbs, subℕ, sucℤ, _+ℤ_, +ℤ-one}

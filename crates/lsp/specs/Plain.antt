@@ -1,13 +1,13 @@
 -- The accumulator does not wrap on the way from LSPs to LPC numbers: each sum there, of numbers that 32 bits hold, is the plain one. The cuts to 32 and to 16 bits stay.
 use native.Mathlib.Omega.{arith}
 use mathlib.Core.Bool.{Bool, true, false, cond}
-use mathlib.Core.List.{List, [], _∷_}
+use mathlib.Core.List.{List}
 use mathlib.Core.Path.{_≡_, refl, ap, _∙_}
-use Prim.Native.Nat.{ℕ, zero, suc, _+_, _-_, _≤_, _<_}
+use Prim.Native.Nat.{ℕ, zero, suc, _+_, _-_, _≤_}
 use lib.Dec.{ltb, eqb}
 use borrow.Author.Tests.{ltb-true, ltb-false}
-use lib.ListN.{getD, length, List·getD-eq-default}
-use lib.IntN.{ℤ, pos, negsuc, negℤ, natAbs, _+ℤ_, _-ℤ_, _*ℤ_}
+use lib.ListN.{List·getD-eq-default}
+use lib.IntN.{ℤ, pos, negℤ, natAbs, _+ℤ_, _-ℤ_, _*ℤ_}
 use lib.Signed.{shrZ}
 use Rattle.sequence.specs.Table.{table, length-table, getD-table}
 use Rattle.sequence.specs.Repeated.{repeated-keeps}
@@ -18,7 +18,7 @@ use Rattle.fixed.specs.Bounds.{abs-trunc32}
 use Rattle.fixed.specs.Wrap.{acc-fits}
 use Rattle.fixed.specs.Sums.{fold-fits}
 use Rattle.fixed.specs.Shifts.{shift-up, shift-down}
-use Rattle.lsp.specs.Lsp.{at, product, linear, own, coefficient, nextPolynomial, firstPolynomial, lspPolynomial, negated, plus, minus, halved, front, back}
+use Rattle.lsp.specs.Lsp.{at, product, linear, own, coefficient, nextPolynomial, firstPolynomial, lspPolynomial, plus, minus, halved, front, back}
 
 -- of 32 bits, as far as a bound says it
 abbrev pub Held : ℤ → Type 0

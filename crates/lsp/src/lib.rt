@@ -1,8 +1,7 @@
 // Line spectral conversions and interpolation.
 ghost use mathlib.Core.Path.{_≡_};
-ghost use mathlib.Core.List.{List};
 ghost use Prim.Native.Nat.{ℕ, _<_, _≤_};
-ghost use lib.IntN.{ℤ, pos};
+ghost use lib.IntN.{pos};
 ghost use lib.Signed.{_≤ℤ_};
 ghost use lib.ListN.{length, getD};
 ghost use Rattle.fixed.specs.Fixed as Fixed;
@@ -26,6 +25,7 @@ fn position(lsf: i16) -> usize
     (lsf as usize) * 20861 * 2 / 65536
 }
 
+// The entry at or before a position; a position beyond the table has the last.
 fn entry(p: usize) -> usize
     ensures { λ r. ⌜ r ≡ Lsp.entry p ⌝ }
 {
@@ -33,6 +33,7 @@ fn entry(p: usize) -> usize
     if 63 < e { 63 } else { e }
 }
 
+// One LSF to its LSP.
 fn cosine(words: &[i16], lsf: i16) -> i16
     requires { ⌜ length (now words) ≡ 5963 ⌝ ∗ ⌜ pos 0 ≤ℤ lsf ⌝ }
     ensures { λ r. ⌜ r ≡ Lsp.cosine (now (words .entry)) lsf ⌝ }
@@ -63,24 +64,28 @@ fn stored(v: i64) -> i32
     trunc32(v) as i32
 }
 
+// In 16 bits: -32768 stays.
 fn negated(x: i16) -> i16
     ensures { λ r. ⌜ r ≡ Lsp.negated x ⌝ }
 {
     low(-(x as i64))
 }
 
+// A coefficient of a polynomial times 1 + 2·l·z^-1 + z^-2, by it and the two before.
 fn product(x: i32, y: i32, z: i32, l: i16) -> i32
     ensures { λ r. ⌜ r ≡ Lsp.product x y z l ⌝ }
 {
     stored(fold(fold(x as i64, mul32x16(y as i64, l) * 2), z as i64))
 }
 
+// The second coefficient of such a product, whose first is 1.
 fn linear(x: i32, l: i16) -> i32
     ensures { λ r. ⌜ r ≡ Lsp.linear x l ⌝ }
 {
     stored(fold(x as i64, (l as i64) * 1024))
 }
 
+// The polynomial is symmetric about its coefficient i - 1.
 fn own(f: [i32; 6], i: usize, j: usize) -> i32
     requires { ⌜ (2 ≤ j) × (j < 6) ⌝ }
     ensures { λ r. ⌜ r ≡ Lsp.own i f j ⌝ }
@@ -91,6 +96,7 @@ fn own(f: [i32; 6], i: usize, j: usize) -> i32
     f[j]
 }
 
+// Coefficient j of i LSPs by those of the i - 1 before.
 fn coefficient(f: [i32; 6], l: i16, i: usize, j: usize) -> i32
     requires { ⌜ j < 6 ⌝ }
     ensures { λ r. ⌜ r ≡ Lsp.coefficient l i f j ⌝ }
@@ -107,6 +113,7 @@ fn coefficient(f: [i32; 6], l: i16, i: usize, j: usize) -> i32
     product(own(f, i, j), f[j - 1], f[j - 2], l)
 }
 
+// All are made from f's, none from one that is new.
 fn next_polynomial(f: [i32; 6], l: i16, i: usize) -> [i32; 6]
     ensures { λ r. ⌜ r ≡ Lsp.nextPolynomial l i f ⌝ }
 {
@@ -124,6 +131,7 @@ fn first_polynomial(x: i16) -> [i32; 6]
     [16777216, stored(-((x as i64) * 1024)), 0, 0, 0, 0]
 }
 
+// Five LSPs, every second one.
 fn lsp_polynomial(lsp: [i16; 10], first: usize) -> [i32; 6]
     requires { ⌜ first < 2 ⌝ }
     ensures { λ r. ⌜ r ≡ Lsp.lspPolynomial lsp first ⌝ }
@@ -136,6 +144,7 @@ fn lsp_polynomial(lsp: [i16; 10], first: usize) -> [i32; 6]
     f
 }
 
+// A coefficient of f times 1 + z^-1, and of f times 1 - z^-1.
 fn plus(f: [i32; 6], i: usize) -> i32
     requires { ⌜ (1 ≤ i) × (i < 6) ⌝ }
     ensures { λ r. ⌜ r ≡ Lsp.plus f i ⌝ }
@@ -150,12 +159,14 @@ fn minus(f: [i32; 6], i: usize) -> i32
     stored(fold(f[i] as i64, -(f[i - 1] as i64)))
 }
 
+// Q24 to Q12, rounded.
 fn halved(sum: i64) -> i16
     ensures { λ r. ⌜ r ≡ Lsp.halved sum ⌝ }
 {
     hi(fold(shift(shift(sum, -1), 4), 32768))
 }
 
+// The predictor's first half and, by the symmetries, its second.
 fn front(p: i32, m: i32) -> i16
     ensures { λ r. ⌜ r ≡ Lsp.front p m ⌝ }
 {
@@ -194,6 +205,7 @@ pub fn lsp_to_lpc(lsp: [i16; 10]) -> [i16; 11]
     lpc
 }
 
+// Rounded down.
 fn midway(x: i16, y: i16) -> i16
     ensures { λ r. ⌜ r ≡ Lsp.midway x y ⌝ }
 {
@@ -232,12 +244,14 @@ fn residual(kv: i16) -> i64
     fold(1073741824, -shift(acc(mul(kv, kv)), 5))
 }
 
+// x - y·k, saturated.
 fn difference(kv: i16, x: i16, y: i16) -> i64
     ensures { λ r. ⌜ r ≡ Lsp.difference kv x y ⌝ }
 {
     sat(fold((x as i64) * 65536, -shift(acc(mul(y, kv)), 3)))
 }
 
+// That by 1 - k^2.
 fn updated(kv: i16, inverse: i16, scale: i32, x: i16, y: i16) -> i16
     ensures { λ r. ⌜ r ≡ Lsp.updated kv inverse scale x y ⌝ }
 {
@@ -257,7 +271,7 @@ fn update_all(k: [i16; 10], top: usize, kv: i16, inverse: i16, scale: i32) -> [i
 }
 
 // A step: the coefficient at top is peeled off, and the numbers before it are divided by its residual.
-// The exponent of that has 5 bits and a sign at most, so it is its own 5-bit field.
+// The Rust reads the exponent as a signed 5-bit field, which it is already.
 fn step(k: [i16; 10], top: usize) -> [i16; 10]
     requires { ⌜ top < 10 ⌝ }
     ensures { λ r. ⌜ r ≡ Lsp.step top k ⌝ }
@@ -268,6 +282,7 @@ fn step(k: [i16; 10], top: usize) -> [i16; 10]
     update_all(k, top, kv, inverse, r.shift)
 }
 
+// The numbers after the first, which is 1.
 fn tail(lpc: [i16; 11]) -> [i16; 10]
     ensures { λ r. ⌜ r ≡ Lsp.tail lpc ⌝ }
 {

@@ -1,7 +1,8 @@
+-- Each call's result as it is defined; the negation is of 32 bits, in 64.
 use borrow.Author.Needs.{needs}
 use native.Mathlib.Omega.{arith}
-use mathlib.Core.Path.{_≡_, _∙_}
-use lib.IntN.{ℤ, negℤ}
+use mathlib.Core.Path.{_≡_}
+use lib.IntN.{negℤ}
 use mir.Syntax.{w16, w32, w64}
 use mir.Val.{SFits}
 use mir.ValLaws.{toZ-ofZ}

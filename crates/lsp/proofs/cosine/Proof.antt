@@ -1,3 +1,4 @@
+-- An entry is one of 64, so both words are inside the tables; then each call's result as it is defined.
 use borrow.Author.Needs.{needs}
 use native.Mathlib.Omega.{arith}
 use mathlib.Core.Path.{_≡_, _∙_, ap}

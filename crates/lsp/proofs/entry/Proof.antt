@@ -1,3 +1,4 @@
+-- Each arm by its test.
 use borrow.Author.Tests.{lt-ltb, le-ltb}
 use Rattle.lsp.specs.Lsp as Lsp
 use Rattle.lsp.proofs.entry.Statement.{statement}

@@ -1,3 +1,4 @@
+-- Minus a 16-bit number times 1024 is within 64 bits.
 use borrow.Author.Needs.{needs}
 use native.Mathlib.Omega.{arith}
 use mathlib.Core.Path.{_≡_, _∙_}

@@ -1,3 +1,4 @@
+-- Each call's result as it is defined.
 use borrow.Author.Needs.{needs}
 use mir.Syntax.{w16, w64}
 use Rattle.fixed.specs.Machine.{back, widens, widened}

@@ -1,5 +1,5 @@
+-- Its callees' promises, put together.
 use borrow.Author.Needs.{needs}
-use mathlib.Core.Path.{_≡_, _∙_, ap}
 use Rattle.lsp.specs.Lsp as Lsp
 use Rattle.lsp.proofs.interpolate_pair.Statement.{statement}
 use Rattle.lsp.proofs.interpolate_pair.Tie as tie

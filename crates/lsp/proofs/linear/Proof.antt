@@ -1,7 +1,8 @@
+-- Each call's result as it is defined; a 16-bit number times 1024 is within 64 bits.
 use borrow.Author.Needs.{needs}
 use native.Mathlib.Omega.{arith}
-use mathlib.Core.Path.{_≡_, _∙_}
-use lib.IntN.{ℤ, pos, _*ℤ_}
+use mathlib.Core.Path.{_≡_}
+use lib.IntN.{pos, _*ℤ_}
 use mir.Syntax.{w16, w32, w64}
 use mir.Val.{SFits}
 use mir.ValLaws.{toZ-ofZ}

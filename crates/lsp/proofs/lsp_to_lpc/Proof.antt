@@ -1,6 +1,7 @@
+-- The loop writes the table of predictor coefficients from its front.
 use borrow.Author.Needs.{needs}
 use native.Mathlib.Omega.{arith}
-use mathlib.Core.Path.{_≡_, refl, _∙_}
+use mathlib.Core.Path.{refl, _∙_}
 use Prim.Native.Nat.{_-_}
 use mir.Syntax.{w16}
 use Rattle.sequence.specs.Table.{table, Written, written-more, written-end}

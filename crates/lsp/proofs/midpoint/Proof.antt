@@ -1,12 +1,11 @@
+-- The loop writes the table of midpoints from its front.
 use borrow.Author.Needs.{needs}
 use native.Mathlib.Omega.{arith}
-use mathlib.Core.Path.{_≡_, refl, _∙_}
-use Prim.Native.Nat.{ℕ, _-_, _+_, _<_}
-use lib.IntN.{ℤ, pos}
+use mathlib.Core.Path.{refl}
+use Prim.Native.Nat.{_-_}
+use lib.IntN.{pos}
 use lib.ListN.{getD}
-use mir.Syntax.{w16, w32}
-use mir.Val.{toZ, ofZ}
-use mir.ValLaws.{toZ-ofZ}
+use mir.Syntax.{w16}
 use Rattle.sequence.specs.Table.{table, Written, written-more, written-end}
 use Rattle.fixed.specs.Machine.{back}
 use Rattle.lsp.specs.Lsp as Lsp

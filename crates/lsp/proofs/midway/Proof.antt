@@ -1,9 +1,8 @@
 -- Half of a number of 17 bits has 16.
 use native.Mathlib.Omega.{arith}
-use mathlib.Core.Path.{_≡_, _∙_}
-use lib.IntN.{ℤ, pos, natAbs, _+ℤ_}
+use lib.IntN.{ℤ, _+ℤ_}
 use lib.Signed.{mag, shrZ}
-use Prim.Native.Nat.{_<_, _≤_}
+use Prim.Native.Nat.{_<_}
 use mir.Syntax.{w16, w64}
 use mir.Val.{SFits}
 use mir.ValLaws.{toZ-ofZ}

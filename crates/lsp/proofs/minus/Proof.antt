@@ -1,6 +1,7 @@
+-- Each call's result as it is defined; the negation is of 32 bits, in 64.
 use borrow.Author.Needs.{needs}
 use native.Mathlib.Omega.{arith}
-use mathlib.Core.Path.{_≡_, _∙_}
+use mathlib.Core.Path.{_≡_}
 use Prim.Native.Nat.{_-_}
 use lib.IntN.{ℤ, pos, negℤ}
 use lib.ListN.{getD}

@@ -1,8 +1,8 @@
 -- In 64 bits the negation does not wrap, and 16 bits keep what 64 hold.
 use borrow.Author.Needs.{needs}
 use native.Mathlib.Omega.{arith}
-use mathlib.Core.Path.{_≡_, _∙_}
-use lib.IntN.{ℤ, negℤ}
+use mathlib.Core.Path.{_∙_}
+use lib.IntN.{negℤ}
 use mir.Syntax.{w16, w64}
 use mir.Val.{SFits}
 use mir.ValLaws.{toZ-ofZ}

@@ -1,11 +1,10 @@
+-- The loop writes the table of coefficients from its front.
 use borrow.Author.Needs.{needs}
 use native.Mathlib.Omega.{arith}
-use mathlib.Core.Path.{_≡_, refl, _∙_}
-use Prim.Native.Nat.{ℕ, _-_, _+_, _<_}
-use lib.IntN.{ℤ, pos}
-use lib.ListN.{getD}
+use mathlib.Core.Path.{refl, _∙_}
+use Prim.Native.Nat.{_-_}
 use mir.Syntax.{w16, w32}
-use mir.Val.{toZ, ofZ}
+use mir.Val.{toZ}
 use mir.ValLaws.{toZ-ofZ}
 use Rattle.sequence.specs.Table.{table, Written, written-more, written-end}
 use Rattle.fixed.specs.Machine.{back}

@@ -1,15 +1,11 @@
+-- Each call's result as it is defined.
 use borrow.Author.Needs.{needs}
-use native.Mathlib.Omega.{arith}
-use mathlib.Core.Path.{_≡_, _∙_}
 use Prim.Native.Nat.{_-_}
-use lib.IntN.{ℤ, pos, negℤ}
+use lib.IntN.{ℤ, pos}
 use lib.ListN.{getD}
 use mir.Syntax.{w32, w64}
 use mir.Val.{SFits}
-use mir.ValLaws.{toZ-ofZ}
-use Rattle.fixed.specs.Fixed as Fixed
-use Rattle.fixed.specs.Abs.{abs-neg, minus-is}
-use Rattle.fixed.specs.Machine.{back, widens, widened, sfits-abs, abs-sfits}
+use Rattle.fixed.specs.Machine.{back, widens, widened}
 use Rattle.lsp.specs.Lsp as Lsp
 use Rattle.lsp.proofs.plus.Statement.{statement}
 use Rattle.lsp.proofs.plus.Tie as tie

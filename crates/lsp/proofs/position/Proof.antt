@@ -1,7 +1,7 @@
+-- A 16-bit number times 41722 is far within 64 bits.
 use native.Mathlib.Omega.{arith}
-use mathlib.Core.Path.{_≡_}
 use Prim.Native.Nat.{_≤_}
-use lib.IntN.{ℤ, natAbs}
+use lib.IntN.{natAbs}
 use lib.Signed.{yes-nonNeg}
 use mir.Syntax.{w16}
 use mir.ValLaws.{toZ-ofZ}

@@ -1,3 +1,4 @@
+-- Each arm by the tests that led there.
 use borrow.Author.Needs.{needs}
 use borrow.Author.Tests.{eq-eqb, ne-eqb, lt-ltb, le-ltb}
 use mir.Syntax.{w16, w32}

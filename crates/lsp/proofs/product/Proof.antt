@@ -1,6 +1,7 @@
+-- Each call's result as it is defined; twice a product of 32 by 16 bits is within 64.
 use borrow.Author.Needs.{needs}
 use native.Mathlib.Omega.{arith}
-use mathlib.Core.Path.{_≡_, _∙_, ap}
+use mathlib.Core.Path.{_≡_, _∙_}
 use lib.IntN.{ℤ, pos, _*ℤ_}
 use mir.Syntax.{w16, w32, w64}
 use mir.Val.{SFits, toZ, ofZ}

@@ -1,3 +1,4 @@
+-- Each turn is the definition's step.
 use borrow.Author.Needs.{needs}
 use native.Mathlib.Omega.{arith}
 use mathlib.Core.List.{List}

@@ -1,3 +1,4 @@
+-- Each call's result as it is defined; the negation is of an accumulator, in 64 bits.
 use borrow.Author.Needs.{needs}
 use native.Mathlib.Omega.{arith}
 use mathlib.Core.Path.{_≡_, _∙_}

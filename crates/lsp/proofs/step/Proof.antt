@@ -1,3 +1,4 @@
+-- Each call's result as it is defined; the exponent is its own 5-bit field, by `scale-is`.
 use borrow.Author.Needs.{needs}
 use mathlib.Core.Path.{_≡_, _∙_, ap, sym}
 use Prim.Native.Nat.{_≤_}

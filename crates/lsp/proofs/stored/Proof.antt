@@ -1,3 +1,4 @@
+-- What 32 bits keep fits them.
 use borrow.Author.Needs.{needs}
 use mathlib.Core.Path.{_≡_, _∙_}
 use mir.Syntax.{w32, w64}

@@ -1,0 +1,180 @@
+// Two cascaded output reconstruction sections.
+ghost use mathlib.Core.Path.{_≡_};
+ghost use Prim.Native.Nat.{_≤_};
+ghost use lib.ListN.{length};
+ghost use Rattle.fixed.specs.Fixed as Fixed;
+ghost use Rattle.postfilter.specs.Postfilter as Postfilter;
+use fixed::fold;
+use fixed::hi;
+use fixed::mul;
+use fixed::mul32x16;
+use fixed::sat;
+use fixed::shift;
+use fixed::trunc32;
+use tables::OUT_FIR;
+use tables::OUT_IIR;
+use tables::word;
+
+// State of the output reconstruction filter: three of each for the first section, and three for the second.
+pub struct OutputFilter {
+    // Feed-forward delay lines.
+    pub fir: [i16; 6],
+    // Feedback delay lines.
+    pub iir: [i32; 6],
+}
+
+// The words that both sections multiply by: forward, and back.
+struct Taps {
+    ff: [i16; 4],
+    fb: [i16; 3],
+}
+
+// What a section gives: its output, and what its feedback delay line takes in.
+struct Section {
+    value: i16,
+    memory: i32,
+}
+
+// What a sample leaves: the filter, and the sample's output.
+struct Step {
+    filter: OutputFilter,
+    value: i16,
+}
+
+// Final output scaling, Q15.
+const OUT_SCALE: i16 = 19661;
+
+// The words are read once, not at each sample.
+fn taps_of(words: &[i16]) -> Taps
+    requires { ⌜ length (now words) ≡ 5963 ⌝ }
+    ensures { λ r. ⌜ r ≡ Postfilter.tapsOf (now (words .entry)) ⌝ }
+{
+    Taps {
+        ff: [
+            word(words, OUT_FIR),
+            word(words, OUT_FIR + 1),
+            word(words, OUT_FIR + 2),
+            word(words, OUT_FIR + 3),
+        ],
+        fb: [
+            word(words, OUT_IIR),
+            word(words, OUT_IIR + 1),
+            word(words, OUT_IIR + 2),
+        ],
+    }
+}
+
+// One input more in a section's sum.
+fn forward(sum: i64, x: i16, tap: i16) -> i64
+    ensures { λ r. ⌜ r ≡ Fixed.fold sum (Fixed.mul x tap) ⌝ }
+{
+    fold(sum, mul(x, tap))
+}
+
+// One earlier sum more, fed back.
+fn back(sum: i64, x: i32, tap: i16) -> i64
+    ensures { λ r. ⌜ r ≡ Fixed.fold sum (Postfilter.back x tap) ⌝ }
+{
+    fold(sum, -shift(mul32x16(x as i64, tap), 1))
+}
+
+// The input and the three before it.
+fn inputs(taps: Taps, filter: OutputFilter, at: usize, value: i16) -> i64
+    requires { ⌜ «at» ≤ 3 ⌝ }
+    ensures { λ r. ⌜ r ≡ Postfilter.inputs taps filter «at» value ⌝ }
+{
+    let ff = taps.ff;
+    let fir = filter.fir;
+    let b0 = forward(0, value, ff[0]);
+    let b1 = forward(b0, fir[at], ff[1]);
+    let b2 = forward(b1, fir[at + 1], ff[2]);
+    forward(b2, fir[at + 2], ff[3])
+}
+
+// A section's sum: what comes in, and what is fed back.
+fn section_sum(taps: Taps, filter: OutputFilter, at: usize, value: i16) -> i64
+    requires { ⌜ «at» ≤ 3 ⌝ }
+    ensures { λ r. ⌜ r ≡ Postfilter.sectionSum taps filter «at» value ⌝ }
+{
+    let fb = taps.fb;
+    let iir = filter.iir;
+    let b0 = inputs(taps, filter, at, value);
+    let b1 = back(b0, iir[at], fb[0]);
+    let b2 = back(b1, iir[at + 1], fb[1]);
+    back(b2, iir[at + 2], fb[2])
+}
+
+// The high half of sum times 2 ^ up, rounded.
+fn rounded(sum: i64, up: i32) -> i16
+    ensures { λ r. ⌜ r ≡ Postfilter.rounded sum up ⌝ }
+{
+    hi(sat(fold(shift(sum, up), 32768)))
+}
+
+// Advance one of the two sections, whose delay lines begin at place `at`.
+fn filter_section(taps: Taps, filter: OutputFilter, at: usize, value: i16) -> Section
+    requires { ⌜ «at» ≤ 3 ⌝ }
+    ensures { λ r. ⌜ r ≡ Postfilter.filterSection taps filter «at» value ⌝ }
+{
+    let sum = section_sum(taps, filter, at, value);
+    let memory = trunc32(shift(sum, 1)) as i32;
+    Section {
+        value: rounded(sum, 2),
+        memory: memory,
+    }
+}
+
+// The final output scaling.
+fn scaled(value: i16) -> i16
+    ensures { λ r. ⌜ r ≡ Postfilter.scaled value ⌝ }
+{
+    rounded(fold(0, mul(value, OUT_SCALE)), 1)
+}
+
+// Both sections' lines moved on by one: of words, and of 32-bit numbers.
+fn words_moved(line: [i16; 6], first: i16, second: i16) -> [i16; 6]
+    ensures { λ r. ⌜ r ≡ Postfilter.moved line first second ⌝ }
+{
+    [first, line[0], line[1], second, line[3], line[4]]
+}
+
+fn numbers_moved(line: [i32; 6], first: i32, second: i32) -> [i32; 6]
+    ensures { λ r. ⌜ r ≡ Postfilter.moved line first second ⌝ }
+{
+    [first, line[0], line[1], second, line[3], line[4]]
+}
+
+// Advance both sections and apply the final output scaling.
+fn filter_sample(taps: Taps, filter: OutputFilter, value: i16) -> Step
+    ensures { λ r. ⌜ r ≡ Postfilter.filterSample taps filter value ⌝ }
+{
+    let first = filter_section(taps, filter, 0, value);
+    let second = filter_section(taps, filter, 3, first.value);
+    let words = filter.fir;
+    let numbers = filter.iir;
+    let fir = words_moved(words, value, first.value);
+    let iir = numbers_moved(numbers, first.memory, second.memory);
+    Step {
+        filter: OutputFilter { fir: fir, iir: iir },
+        value: scaled(second.value),
+    }
+}
+
+// Run a block through the two sections.
+pub fn run(filter: OutputFilter, words: &[i16], block: &mut [i16]) -> OutputFilter
+    requires { ⌜ length (now words) ≡ 5963 ⌝ }
+    ensures outputs { λ _. ⌜ now (block .exit) ≡ Postfilter.outputs (now (words .entry)) filter (now (block .entry)) ⌝ }
+    ensures after { λ r. ⌜ r ≡ Postfilter.after (now (words .entry)) filter (now (block .entry)) ⌝ }
+{
+    let taps = taps_of(words);
+    let mut state = filter;
+    let mut n = 0;
+    while n < block.len() {
+        let step = filter_sample(taps, state, block[n]);
+        let y = step.value;
+        block[n] = y;
+        state = step.filter;
+        n += 1;
+    }
+    state
+}
