@@ -7,7 +7,6 @@ ghost use Rattle.postfilter.specs.Postfilter as Postfilter;
 use fixed::fold;
 use fixed::hi;
 use fixed::mul;
-use fixed::mul32x16;
 use fixed::sat;
 use fixed::shift;
 use fixed::trunc32;
@@ -71,11 +70,12 @@ fn forward(sum: i64, x: i16, tap: i16) -> i64
     fold(sum, mul(x, tap))
 }
 
-// One earlier sum more, fed back.
+// One earlier sum more, fed back. One product is what mul32x16 makes of two halves, and quicker.
 fn back(sum: i64, x: i32, tap: i16) -> i64
     ensures { λ r. ⌜ r ≡ Fixed.fold sum (Postfilter.back x tap) ⌝ }
 {
-    fold(sum, -shift(mul32x16(x as i64, tap), 1))
+    let product = ((x as i64) * (tap as i64)) >> 15;
+    fold(sum, -shift(product, 1))
 }
 
 // The input and the three before it.

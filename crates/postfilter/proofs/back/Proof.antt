@@ -1,50 +1,66 @@
--- The term is an accumulator, negated.
+-- x has 32 bits, so that its product over 2 ^ 15 is mul32x16's; the term is an accumulator, negated.
 use borrow.Author.Needs.{needs}
 use native.Mathlib.Omega.{arith}
-use mathlib.Core.Path.{_≡_, _∙_, ap}
-use lib.IntN.{ℤ, pos, negℤ, _-ℤ_}
-use mir.Syntax.{w16, w64}
+use mathlib.Core.Path.{_≡_, sym, _∙_, ap}
+use lib.IntN.{ℤ, pos, negℤ, _-ℤ_, _*ℤ_}
+use lib.Signed.{shrZ}
+use mir.Syntax.{w16, w32, w64}
 use mir.Val.{SFits, toZ, ofZ}
 use mir.ValLaws.{toZ-ofZ}
 use Rattle.fixed.specs.Fixed as Fixed
-use Rattle.fixed.specs.Abs.{abs-neg, minus-is}
+use Rattle.fixed.specs.Abs.{abs-neg, abs-mul-le, minus-is}
+use Rattle.fixed.specs.Wrap.{wrap-id}
 use Rattle.fixed.specs.Bounds.{abs-shift}
-use Rattle.fixed.specs.Machine.{back, sfits-abs, widens, widened}
+use Rattle.fixed.specs.Machine.{back, sfits-abs, abs-sfits, shr-sfits, widens, widened}
 use Rattle.postfilter.specs.Postfilter as Postfilter
 use Rattle.postfilter.proofs.back.Statement.{statement}
 use Rattle.postfilter.proofs.back.Tie as tie
 
-cast-mul32x16 : tie.Need-cast-mul32x16
-cast-mul32x16 c = widens tt (c .fits .x)
+module _ (s : tie.Start) where
+  abbrev x : ℤ
+  x = s .args .x
 
-mul32x16-requires : tie.Need-mul32x16-requires
-mul32x16-requires c κs = search needs
+  abbrev tap : ℤ
+  tap = s .args .tap
+
+  product-fits : SFits w64 (x *ℤ tap)
+  product-fits = sfits-abs w64 _ (omega (arith, abs-mul-le x tap 2147483648 32768 (abs-sfits w32 x (s .fits .x)) (abs-sfits w16 tap (s .fits .tap))))
+
+  product-is : shrZ (x *ℤ tap) 32768 ≡ Fixed.mul32x16 x tap
+  unfolding Fixed.mul32x16
+  product-is = ap (λ (z : ℤ). shrZ (z *ℤ tap) 32768) (sym (wrap-id 31 x (s .fits .x .sfits)))
+
+cast-product : tie.Need-cast-product
+cast-product c = widens tt (c .fits .x)
+
+cast-product-2 : tie.Need-cast-product-2
+cast-product-2 c = widens tt (c .fits .tap)
+
+mul-product : tie.Need-mul-product
+mul-product c = simp (widened tt (c .fits .x), widened tt (c .fits .tap)) (product-fits c)
 
 shift-requires : tie.Need-shift-requires
 shift-requires c κs = search needs
 
 module _ (c : tie.After-shift) where
   abbrev s : tie.Start
-  s = c .before .before
+  s = c .before
 
-  product : c .before .mul32x16 .result ≡ Fixed.mul32x16 (s .args .x) (s .args .tap)
-  product = simp (widened tt (s .fits .x), toZ-ofZ w16 _ (s .fits .tap)) at (c .before .mul32x16 .ensures)
-
-  doubled : toZ w64 (ofZ w64 (c .shift .result)) ≡ Fixed.shift (Fixed.mul32x16 (s .args .x) (s .args .tap)) (pos 1)
+  doubled : toZ w64 (ofZ w64 (c .shift .result)) ≡ Fixed.shift (Fixed.mul32x16 (x s) (tap s)) (pos 1)
   doubled =
       back w64 (c .shift .result) (c .shift .ok)
-      ∙ simp (back w64 (c .before .mul32x16 .result) (c .before .mul32x16 .ok)) at (c .shift .ensures)
-      ∙ ap (λ (z : ℤ). Fixed.shift z (pos 1)) product
+      ∙ simp (widened tt (s .fits .x), widened tt (s .fits .tap), toZ-ofZ w64 _ (product-fits s), toZ-ofZ w64 _ (shr-sfits w64 _ 32768 (product-fits s))) at (c .shift .ensures)
+      ∙ ap (λ (z : ℤ). Fixed.shift z (pos 1)) (product-is s)
 
-  term : pos 0 -ℤ toZ w64 (ofZ w64 (c .shift .result)) ≡ Postfilter.back (s .args .x) (s .args .tap)
+  term : pos 0 -ℤ toZ w64 (ofZ w64 (c .shift .result)) ≡ Postfilter.back (x s) (tap s)
   unfolding Postfilter.back
   term = minus-is (toZ w64 (ofZ w64 (c .shift .result))) ∙ ap negℤ doubled
 
-  term-fits : SFits w64 (Postfilter.back (s .args .x) (s .args .tap))
+  term-fits : SFits w64 (Postfilter.back (x s) (tap s))
   unfolding Postfilter.back
   term-fits =
-      let d : ℤ = Fixed.shift (Fixed.mul32x16 (s .args .x) (s .args .tap)) (pos 1) in
-      sfits-abs w64 _ (omega (arith, abs-neg d, abs-shift (Fixed.mul32x16 (s .args .x) (s .args .tap)) (pos 1)))
+      let d : ℤ = Fixed.shift (Fixed.mul32x16 (x s) (tap s)) (pos 1) in
+      sfits-abs w64 _ (omega (arith, abs-neg d, abs-shift (Fixed.mul32x16 (x s) (tap s)) (pos 1)))
 
 sub-fold : tie.Need-sub-fold
 sub-fold c = rw (term c) (term-fits c)
@@ -58,6 +74,4 @@ returns c =
     back w64 (c .fold .result) (c .fold .ok) ∙ simp (toZ-ofZ w64 _ (s b .fits .sum), term b, toZ-ofZ w64 _ (term-fits b)) at (c .fold .ensures)
 
 pub back-spec : {M : Type 1} → statement M
-back-spec =
-    tie.close
-    (tie.spec cast-mul32x16 mul32x16-requires shift-requires sub-fold fold-requires returns)
+back-spec = tie.close (tie.spec cast-product cast-product-2 mul-product shift-requires sub-fold fold-requires returns)
