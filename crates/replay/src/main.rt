@@ -1,14 +1,22 @@
 // Replays questions that were put to the Rust: a line of numbers in, the answer's numbers out.
 // The first number of a line names the module. The stored output is the Rust's own.
+mod lent;
 mod of_bits;
+mod of_codebook;
+mod of_excitation;
 mod of_fixed;
+mod of_lsp;
+mod of_pitch;
+mod of_postfilter;
 mod of_synth;
+mod samples;
 
 use libc::STDIN_FILENO;
 use libc::STDOUT_FILENO;
 ghost use mathlib.Core.Path.{_≡_};
 ghost use Prim.Native.Nat.{_<_, _≤_, _+_};
 ghost use lib.ListN.{length};
+ghost use Rattle.codebook.specs.Sound.{SoundWords};
 
 // The numbers of a line, and where the next line begins.
 struct Question {
@@ -159,29 +167,64 @@ fn end_line() {
     io::write_all(STDOUT_FILENO, b"\n");
 }
 
-// 0 fixed, 1 synth, 2 bits
-fn answer(q: Question) {
+// The words, as a line.
+fn say_line(w: &[i16]) {
+    say_words(w, false);
+    end_line();
+}
+
+// 0 fixed, 1 synth, 2 bits, 3 lsp, 4 pitch, 5 codebook, 6 excitation, 7 postfilter
+fn answer(words: &[i16], q: Question)
+    requires { ⌜ SoundWords (now words) ⌝ }
+{
     let n = q.numbers;
     let count = q.count;
     match n[0] {
         0 => of_fixed::answer(n),
         1 => of_synth::answer(n, count),
         2 => of_bits::answer(n),
+        3 => of_lsp::answer(words, n),
+        4 => of_pitch::answer(words, n),
+        5 => of_codebook::answer(words, n),
+        6 => of_excitation::answer(n),
+        7 => of_postfilter::answer(words, n),
         _ => say(&[]),
     }
 }
 
-fn answers(s: &[u8]) {
+fn answers(words: &[i16], s: &[u8])
+    requires { ⌜ SoundWords (now words) ⌝ }
+{
     let mut from = 0;
     while from < s.len() {
         let q = line(s, from);
         from = q.next;
-        answer(q);
+        answer(words, q);
+    }
+}
+
+// What is asked on standard input.
+fn asked_all(words: &[i16])
+    requires { ⌜ SoundWords (now words) ⌝ }
+{
+    let mut room = [0u8; 262144];
+    let n = io::read_full(STDIN_FILENO, &mut room);
+    answers(words, &room[..n]);
+}
+
+// A set that breaks a rule has no answers.
+fn replayed(words: &[i16], bytes: &[u8]) {
+    if tables::check(words, bytes) == 0 {
+        asked_all(words);
     }
 }
 
 fn main() {
-    let mut room = [0u8; 262144];
-    let n = io::read_full(STDIN_FILENO, &mut room);
-    answers(&room[..n]);
+    let mut room = [0u8; 15834];
+    if lent::file(&mut room) != 15834 {
+        return;
+    }
+    let mut words = [0i16; 5963];
+    lent::words(&room, &mut words);
+    replayed(&words, &room[11926..]);
 }
