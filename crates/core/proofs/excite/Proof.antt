@@ -1,0 +1,30 @@
+-- Predicted, and then mixed.
+use borrow.Author.Needs.{needs}
+use mathlib.Core.Path.{_∙_, ap}
+use mathlib.Core.List.{List}
+use lib.IntN.{ℤ}
+use mir.Syntax.{w16}
+use mir.ValLaws.{toZ-ofZ}
+use Rattle.core.specs.Core as Spec
+use Rattle.core.proofs.excite.Statement.{statement}
+use Rattle.core.proofs.excite.Tie as tie
+
+predict-requires : tie.Need-predict-requires
+predict-requires c κs = search needs
+
+mix-requires : tie.Need-mix-requires
+mix-requires c κs = search needs
+
+same-length : tie.Need-same-length
+same-length c = search needs
+
+returns : tie.Need-returns
+unfolding Spec.excited
+returns c =
+    let p = c .before .before .before .before in
+    let s = p .before .before in
+    simp (toZ-ofZ w16 _ (s .fits .pitch), toZ-ofZ w16 _ (s .fits .code)) at (c .before .mix .ensures)
+    ∙ ap (λ (l : List ℤ). Spec.mix (s .args .pitch) (s .args .code) (s .args .innovation .now) (s .args .start) l) (p .predict .ensures)
+
+pub excite-spec : {M : Type 1} → statement M
+excite-spec = tie.close (tie.spec predict-requires mix-requires same-length returns)

@@ -1,0 +1,26 @@
+-- The numbers as they are, and the gain that is left as it was clamped.
+use borrow.Author.Needs.{needs}
+use mathlib.Core.Path.{_≡_, _∙_}
+use lib.IntN.{ℤ}
+use mir.Syntax.{w16}
+use mir.Val.{toZ, ofZ}
+use Rattle.fixed.specs.Machine.{back}
+use Rattle.core.specs.Core as Spec
+use Rattle.core.proofs.traced.Statement.{statement}
+use Rattle.core.proofs.traced.Tie as tie
+
+clamped-requires : tie.Need-clamped-requires
+clamped-requires c κs = search needs
+
+returns : tie.Need-returns
+unfolding Spec.traced
+returns c =
+    let a = c .before .before in
+    let s = a .before .before .before .before .before in
+    let g = s .args .g in
+    let p = back w16 (g .pitch) (a .struct-told .given .0 .1) in
+    let k : toZ w16 (ofZ w16 (c .clamped .result)) ≡ Spec.clamped (g .pitch) = back w16 (c .clamped .result) (c .clamped .ok) ∙ simp p at (c .clamped .ensures) in
+    simp (p, back w16 (g .code) (a .struct-told .given .1 .0 .1), k)
+
+pub traced-spec : {M : Type 1} → statement M
+traced-spec = tie.close (tie.spec clamped-requires returns)

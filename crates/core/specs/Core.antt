@@ -1,0 +1,175 @@
+-- core.rs: a half frame. Two subframes, each predicted from the excitation before it, with an innovation mixed in; then synthesis and the output filter.
+use mathlib.Core.Bool.{cond, _||_}
+use mathlib.Core.List.{List, _++_}
+use Prim.Native.Nat.{ℕ, _+_}
+use lib.Dec.{eqb}
+use lib.IntN.{ℤ, pos}
+use lib.ListN.{getD, take, drop, replicate}
+use lib.Signed.{ltZ}
+use lib.Ieee.{Float}
+use Rattle.sequence.specs.Rewritten.{rewritten}
+use Rattle.fixed.specs.Fixed.{clamp, fold, sat, hi, mul, shift}
+use Rattle.bits.specs.declared.HalfParams.{HalfParams}
+use Rattle.bits.specs.Bits as Bits
+use Rattle.lsp.specs.declared.Pair.{Pair}
+use Rattle.lsp.specs.Lsp as Lsp
+use Rattle.pitch.specs.declared.Lag.{Lag}
+use Rattle.pitch.specs.Pitch as Pitch
+use Rattle.codebook.specs.declared.Innovation.{Innovation}
+use Rattle.codebook.specs.Codebook as Codebook
+use Rattle.excitation.specs.declared.InterpolationGains.{InterpolationGains}
+use Rattle.excitation.specs.Excitation as Excitation
+use Rattle.gain.specs.declared.Decoded.{Decoded}
+use Rattle.gain.specs.Gain as Gain
+use Rattle.synth.specs.Synth as Synth
+use Rattle.postfilter.specs.Postfilter as Postfilter
+use Rattle.core.specs.declared.Core.{Core}
+use Rattle.core.specs.declared.SubframeParams.{SubframeParams}
+use Rattle.core.specs.declared.ParamsPair.{ParamsPair}
+use Rattle.core.specs.declared.SubframeTrace.{SubframeTrace}
+use Rattle.core.specs.declared.Subframe.{Subframe}
+use Rattle.core.specs.declared.Half.{Half}
+
+-- ---- the innovation
+-- of the two gains of sharpening, classes 1, 2 and 5 take the second
+unfoldable pub sharpenGain : ℕ → InterpolationGains → ℤ
+sharpenGain class g = cond (eqb class 1 || eqb class 2 || eqb class 5) (g .voiced) (g .fixed)
+
+-- an innovation, sharpened where the lag's integer is below 80
+unfoldable pub shaped : List ℤ → Innovation → Lag → InterpolationGains → Innovation
+shaped words i lag g = record {
+  code = cond (ltZ (lag .integer) (pos 80)) (Pitch.sharpen (Pitch.interp words) (i .code) lag (sharpenGain (i .class) g)) (i .code);
+  class = i .class;
+}
+
+-- the two gains of a subframe, by its first reflection coefficient, the gain that the subframe before it left, and the last lag of the half before
+unfoldable pub sharpenGains : List ℤ → Lag → ℤ → ℤ → InterpolationGains
+sharpenGains lpc lag sharpenFixed lastHalfLag = Excitation.interpolationGains (getD (Lsp.reflectionCoefficients lpc) 0 (pos 0)) sharpenFixed (lag .integer) lastHalfLag
+
+-- the innovation of a subframe
+unfoldable pub innovation : List ℤ → SubframeParams → ℤ → ℤ → Innovation
+innovation words p sharpenFixed lastHalfLag = shaped words (Codebook.decode words (p .code)) (p .lag) (sharpenGains (p .lpc) (p .lag) sharpenFixed lastHalfLag)
+
+-- ---- the excitation
+-- a sample: the predicted one by the pitch gain, and twice the innovation's by the code gain; doubled, rounded and saturated
+unfoldable pub mixed : ℤ → ℤ → ℤ → ℤ → ℤ
+mixed pitch code a c = hi (sat (fold (shift (fold (mul a pitch) (shift (mul c code) (pos 1))) (pos 1)) (pos 32768)))
+
+-- sample n from place start on, and the 80 of them, each mixed with the innovation's
+abbrev pub mixedAt : ℤ → ℤ → List ℤ → ℕ → ℕ → List ℤ → ℤ
+mixedAt pitch code innovation start n exc = mixed pitch code (getD exc (start + n) (pos 0)) (getD innovation n (pos 0))
+
+unfoldable pub mix : ℤ → ℤ → List ℤ → ℕ → List ℤ → List ℤ
+mix pitch code innovation start exc = rewritten (mixedAt pitch code innovation start) start exc 80
+
+-- first predicted by the lag
+unfoldable pub excited : List ℤ → List ℤ → ℕ → Lag → ℤ → ℤ → List ℤ → List ℤ
+excited words exc start lag pitch code innovation = mix pitch code innovation start (Pitch.predict (Pitch.interp words) exc start lag)
+
+-- by a subframe's trace
+abbrev pub excitedBy : List ℤ → List ℤ → ℕ → SubframeTrace → List ℤ
+excitedBy words exc start t = excited words exc start (t .lag) (t .pitch) (t .code) (t .innovation)
+
+-- the 80 samples from a place on
+unfoldable pub part : List ℤ → ℕ → List ℤ
+part exc start = take 80 (drop start exc)
+
+-- ---- a subframe
+-- the gain that it leaves: its pitch gain, within 3277 to 13017
+unfoldable pub clamped : ℤ → ℤ
+clamped pitch = clamp (pos 3277) (pos 13017) pitch
+
+-- by the innovation and the gains that it has: its trace, and what the next subframe starts from
+unfoldable pub traced : SubframeParams → List Float → Innovation → Decoded → List ℤ → Subframe
+traced p gains i g samples = record {
+  trace = record {
+    lag = p .lag;
+    «code_class» = i .class;
+    «gain_index» = p .«gain_index»;
+    pitch = g .pitch;
+    code = g .code;
+    «gain_history» = gains;
+    lpc = p .lpc;
+    innovation = i .code;
+    «mixed_excitation» = samples;
+  };
+  «sharpen_fixed» = clamped (g .pitch);
+  gains = g .history;
+}
+
+-- a subframe whose excitation is the 80 samples from place start on, by what the subframe before it left
+unfoldable pub decodeSubframe : List ℤ → List ℕ → List ℤ → ℕ → SubframeParams → ℤ → ℤ → List Float → Subframe
+decodeSubframe words bytes exc start p sharpenFixed lastHalfLag gains =
+    let i : Innovation = innovation words p sharpenFixed lastHalfLag in
+    let g : Decoded = Gain.decode bytes gains (p .«gain_index») (i .code) in
+    traced p gains i g (part (excited words exc start (p .lag) (g .pitch) (g .code) (i .code)) start)
+
+-- ---- a half
+-- what its fields and the spectrum settle of its subframes: the first lag is absolute, the second relative to the first's integer
+unfoldable pub splitParams : List ℤ → List ℤ → HalfParams → ParamsPair
+splitParams previous lsp p =
+    let lpc : Pair = Lsp.interpolatePair previous lsp in
+    let lag : Lag = Pitch.decodeAbsolute (p .«absolute_pitch») in
+    record {
+      first = record { lpc = lpc .first; lag = lag; code = p .code0; «gain_index» = Bits.gainIndex p 0 };
+      second = record { lpc = lpc .second; lag = Pitch.decodeRelative (p .«relative_pitch») (lag .integer); code = p .code1; «gain_index» = Bits.gainIndex p 1 };
+    }
+
+-- room for its excitation: the 154 samples that are kept, and 160 that are written before they are read
+unfoldable pub room : List ℤ → List ℤ
+room past = past ++ replicate 160 (pos 0)
+
+-- the 154 samples that the next half reads
+unfoldable pub kept : List ℤ → List ℤ
+kept exc = drop 160 exc
+
+-- the outputs of both subframes by the synthesis filter, which carries its memory on, and the memory after them
+unfoldable pub synthesised : SubframeTrace → SubframeTrace → List ℤ → List ℤ
+synthesised first second memory =
+    Synth.synthesis (first .lpc) memory (first .«mixed_excitation»)
+    ++ Synth.synthesis (second .lpc) (Synth.memory (first .lpc) memory (first .«mixed_excitation»)) (second .«mixed_excitation»)
+
+unfoldable pub memoryAfter : SubframeTrace → SubframeTrace → List ℤ → List ℤ
+memoryAfter first second memory = Synth.memory (second .lpc) (Synth.memory (first .lpc) memory (first .«mixed_excitation»)) (second .«mixed_excitation»)
+
+-- of a core, the LSPs of the present half, and its fields
+module _ (words : List ℤ) (bytes : List ℕ) (core : Core) (lsp : List ℤ) (p : HalfParams) where
+  unfoldable pub params : ParamsPair
+  params = splitParams (core .lsp) lsp p
+
+  -- the first subframe, from place 154 on, and the excitation with it
+  unfoldable pub first : Subframe
+  first = decodeSubframe words bytes (room (core .excitation)) 154 (params .first) (core .«sharpen_fixed») (core .«last_half_lag») (core .gains)
+
+  unfoldable pub between : List ℤ
+  between = excitedBy words (room (core .excitation)) 154 (first .trace)
+
+  -- the second, from place 234 on; the last lag of the half before is still that of the first subframe
+  unfoldable pub second : Subframe
+  second = decodeSubframe words bytes between 234 (params .second) (first .«sharpen_fixed») (core .«last_half_lag») (first .gains)
+
+  unfoldable pub behind : List ℤ
+  behind = excitedBy words between 234 (second .trace)
+
+  unfoldable pub synthesis : List ℤ
+  synthesis = synthesised (first .trace) (second .trace) (core .memory)
+
+  -- the 160 samples
+  unfoldable pub samples : List ℤ
+  samples = Postfilter.outputs words (core .filter) synthesis
+
+  -- and what the next half starts from, with both traces
+  unfoldable pub half : Half
+  half = record {
+    core = record {
+      lsp = lsp;
+      excitation = kept behind;
+      memory = memoryAfter (first .trace) (second .trace) (core .memory);
+      «sharpen_fixed» = second .«sharpen_fixed»;
+      «last_half_lag» = second .trace .lag .integer;
+      filter = Postfilter.after words (core .filter) synthesis;
+      gains = second .gains;
+    };
+    first = first .trace;
+    second = second .trace;
+  }

@@ -1,0 +1,4 @@
+pub mod Core
+pub mod Accepted
+pub mod Figures
+pub mod Kept

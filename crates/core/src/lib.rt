@@ -1,0 +1,397 @@
+// A half frame: LSPs and fields in, 160 samples and the figures of two subframes out.
+ghost use mathlib.Core.Path.{_≡_};
+ghost use mathlib.Core.Bool.{true};
+ghost use Prim.Native.Nat.{_+_, _≤_, _<_};
+ghost use lib.ListN.{length};
+ghost use Rattle.tables.specs.Places.{WORDS};
+ghost use Rattle.tables.specs.Sound.{Sound};
+ghost use Rattle.pitch.specs.Pitch as Pitch;
+ghost use Rattle.codebook.specs.Sound.{SoundWords};
+ghost use Rattle.codebook.specs.Codebook as Codebook;
+ghost use Rattle.bits.specs.Widths.{InWidths};
+ghost use Rattle.synth.specs.Synth as Synth;
+ghost use Rattle.core.specs.Accepted.{Usable};
+ghost use Rattle.core.specs.Core as Spec;
+use bits::HalfParams;
+use bits::gain_index;
+use codebook::Innovation;
+use excitation::InterpolationGains;
+use excitation::interpolation_gains;
+use fixed::fold;
+use fixed::hi;
+use fixed::mul;
+use fixed::sat;
+use fixed::shift;
+use gain::Decoded;
+use lsp::interpolate_pair;
+use pitch::Lag;
+use pitch::decode_absolute;
+use pitch::decode_relative;
+use postfilter::OutputFilter;
+
+// What a half frame carries on: the parts of the state but for the spectrum's.
+pub struct Core {
+    pub lsp: [i16; 10],
+    pub excitation: [i16; 154],
+    pub memory: [i16; 10],
+    pub sharpen_fixed: i16,
+    pub last_half_lag: i16,
+    pub filter: OutputFilter,
+    pub gains: [f32; 4],
+}
+
+// What the frame's fields and the spectrum settle of a subframe.
+pub struct SubframeParams {
+    pub lpc: [i16; 11],
+    pub lag: Lag,
+    pub code: u16,
+    pub gain_index: usize,
+}
+
+pub struct ParamsPair {
+    pub first: SubframeParams,
+    pub second: SubframeParams,
+}
+
+// A subframe as it was decoded: the two gains, the gain history before it, its shaped innovation and its excitation among the rest.
+pub struct SubframeTrace {
+    pub lag: Lag,
+    pub code_class: usize,
+    pub gain_index: usize,
+    pub pitch: i16,
+    pub code: i16,
+    pub gain_history: [f32; 4],
+    pub lpc: [i16; 11],
+    pub innovation: [i16; 80],
+    pub mixed_excitation: [i16; 80],
+}
+
+// That, and what the next subframe starts from.
+pub struct Subframe {
+    pub trace: SubframeTrace,
+    pub sharpen_fixed: i16,
+    pub gains: [f32; 4],
+}
+
+// A half frame as it was decoded, and what the next one starts from.
+pub struct Half {
+    pub core: Core,
+    pub first: SubframeTrace,
+    pub second: SubframeTrace,
+}
+
+// A sample: the predicted one by the pitch gain, and the innovation's by the code gain.
+fn mixed(pitch: i16, code: i16, a: i16, c: i16) -> i16
+    ensures { λ r. ⌜ r ≡ Spec.mixed pitch code a c ⌝ }
+{
+    let sum = fold(mul(a, pitch), shift(mul(c, code), 1));
+    hi(sat(fold(shift(sum, 1), 32768)))
+}
+
+fn mix(pitch: i16, code: i16, innovation: &[i16; 80], start: usize, exc: &mut [i16])
+    requires { ⌜ start + 80 ≤ length (now exc) ⌝ }
+    ensures { λ _. ⌜ now (exc .exit) ≡ Spec.mix pitch code (now (innovation .entry)) start (now (exc .entry)) ⌝ }
+{
+    for n in 0..80 {
+        let place = start + n;
+        let y = mixed(pitch, code, exc[place], innovation[n]);
+        exc[place] = y;
+    }
+}
+
+fn clamped(pitch: i16) -> i16
+    ensures { λ r. ⌜ r ≡ Spec.clamped pitch ⌝ }
+{
+    if pitch < 3277 {
+        3277
+    } else if 13017 < pitch {
+        13017
+    } else {
+        pitch
+    }
+}
+
+fn sharpen_gain(class: usize, g: InterpolationGains) -> i16
+    ensures { λ r. ⌜ r ≡ Spec.sharpenGain class g ⌝ }
+{
+    match class {
+        1 => g.voiced,
+        2 => g.voiced,
+        5 => g.voiced,
+        _ => g.fixed,
+    }
+}
+
+// The innovation with itself, a lag earlier, mixed in where the lag is shorter than a subframe.
+fn shaped(words: &[i16], innovation: Innovation, lag: Lag, g: InterpolationGains) -> Innovation
+    requires { ⌜ length (now words) ≡ WORDS ⌝ ∗ ⌜ Pitch.Sane lag ⌝ }
+    ensures { λ r. ⌜ r ≡ Spec.shaped (now (words .entry)) innovation lag g ⌝ }
+{
+    if lag.integer < 80 {
+        let class = innovation.class;
+        let mut code = innovation.code;
+        pitch::sharpen(words, &mut code, lag, sharpen_gain(class, g));
+        return Innovation { code, class };
+    }
+    innovation
+}
+
+fn sharpen_gains(
+    lpc: [i16; 11],
+    lag: Lag,
+    sharpen_fixed: i16,
+    last_half_lag: i16,
+) -> InterpolationGains
+    ensures { λ r. ⌜ r ≡ Spec.sharpenGains lpc lag «sharpen_fixed» «last_half_lag» ⌝ }
+{
+    let reflection = lsp::reflection_coefficients(lpc);
+    interpolation_gains(reflection[0], sharpen_fixed, lag.integer, last_half_lag)
+}
+
+fn innovation(
+    words: &[i16],
+    params: SubframeParams,
+    sharpen_fixed: i16,
+    last_half_lag: i16,
+) -> Innovation
+    requires { ⌜ SoundWords (now words) ⌝ ∗ ⌜ Codebook.digitsFit (now words) (params .code) ≡ true ⌝ ∗ ⌜ Pitch.Sane (params .lag) ⌝ }
+    ensures { λ r. ⌜ r ≡ Spec.innovation (now (words .entry)) params «sharpen_fixed» «last_half_lag» ⌝ }
+{
+    let lpc = params.lpc;
+    let lag = params.lag;
+    let g = sharpen_gains(lpc, lag, sharpen_fixed, last_half_lag);
+    shaped(words, codebook::decode(words, params.code), lag, g)
+}
+
+fn copy(dst: &mut [i16], src: &[i16])
+    requires { ⌜ length (now dst) ≡ length (now src) ⌝ }
+    ensures { λ _. ⌜ now (dst .exit) ≡ now (src .entry) ⌝ }
+{
+    let mut i = 0;
+    while i < src.len() {
+        let x = src[i];
+        dst[i] = x;
+        i += 1;
+    }
+}
+
+fn part(exc: &[i16], start: usize) -> [i16; 80]
+    requires { ⌜ start + 80 ≤ length (now exc) ⌝ }
+    ensures { λ r. ⌜ r ≡ Spec.part (now (exc .entry)) start ⌝ }
+{
+    let end = start + 80;
+    let mut out = [0i16; 80];
+    copy(&mut out[..], &exc[start..end]);
+    out
+}
+
+// The predicted samples from place start on, with the innovation mixed in.
+fn excite(
+    words: &[i16],
+    exc: &mut [i16],
+    start: usize,
+    lag: Lag,
+    pitch: i16,
+    code: i16,
+    innovation: &[i16; 80],
+)
+    requires { ⌜ (length (now words) ≡ WORDS) × (154 ≤ start) × (start + 80 ≤ length (now exc)) × Pitch.Sane lag ⌝ }
+    ensures { λ _. ⌜ now (exc .exit) ≡ Spec.excited (now (words .entry)) (now (exc .entry)) start lag pitch code (now (innovation .entry)) ⌝ }
+{
+    pitch::predict(words, exc, start, lag);
+    mix(pitch, code, innovation, start, exc);
+}
+
+fn traced(
+    params: SubframeParams,
+    gains: [f32; 4],
+    innovation: Innovation,
+    g: Decoded,
+    samples: [i16; 80],
+) -> Subframe
+    ensures { λ r. ⌜ r ≡ Spec.traced params gains innovation g samples ⌝ }
+{
+    let lag = params.lag;
+    let lpc = params.lpc;
+    let code = innovation.code;
+    let history = g.history;
+    Subframe {
+        trace: SubframeTrace {
+            lag,
+            code_class: innovation.class,
+            gain_index: params.gain_index,
+            pitch: g.pitch,
+            code: g.code,
+            gain_history: gains,
+            lpc,
+            innovation: code,
+            mixed_excitation: samples,
+        },
+        sharpen_fixed: clamped(g.pitch),
+        gains: history,
+    }
+}
+
+// A subframe whose excitation is the 80 samples from place start on.
+fn decode_subframe(
+    words: &[i16],
+    bytes: &[u8],
+    exc: &mut [i16],
+    start: usize,
+    params: SubframeParams,
+    sharpen_fixed: i16,
+    last_half_lag: i16,
+    gains: [f32; 4],
+) -> Subframe
+    requires { ⌜ Usable (now words) (now bytes) params ⌝ ∗ ⌜ 154 ≤ start ⌝ ∗ ⌜ start + 80 ≤ length (now exc) ⌝ }
+    ensures is { λ r. ⌜ r ≡ Spec.decodeSubframe (now (words .entry)) (now (bytes .entry)) (now (exc .entry)) start params «sharpen_fixed» «last_half_lag» gains ⌝ }
+    ensures room { λ r. ⌜ now (exc .exit) ≡ Spec.excitedBy (now (words .entry)) (now (exc .entry)) start (r .trace) ⌝ }
+{
+    let i = innovation(words, params, sharpen_fixed, last_half_lag);
+    let code = i.code;
+    let g = gain::decode(bytes, gains, params.gain_index, &code);
+    let lag = params.lag;
+    excite(words, exc, start, lag, g.pitch, g.code, &code);
+    let samples = part(&exc[..], start);
+    traced(params, gains, i, g, samples)
+}
+
+fn split_params(previous: [i16; 10], present: [i16; 10], params: HalfParams) -> ParamsPair
+    requires { ⌜ InWidths params ⌝ }
+    ensures { λ r. ⌜ r ≡ Spec.splitParams previous present params ⌝ }
+{
+    let pair = interpolate_pair(previous, present);
+    let a = pair.first;
+    let b = pair.second;
+    let lag = decode_absolute(params.absolute_pitch);
+    let next = decode_relative(params.relative_pitch, lag.integer);
+    ParamsPair {
+        first: SubframeParams {
+            lpc: a,
+            lag,
+            code: params.code0,
+            gain_index: gain_index(params, 0),
+        },
+        second: SubframeParams {
+            lpc: b,
+            lag: next,
+            code: params.code1,
+            gain_index: gain_index(params, 1),
+        },
+    }
+}
+
+// Room for the excitation of a half: the samples that are kept, and the 160 to come.
+fn room(past: [i16; 154]) -> [i16; 314]
+    ensures { λ r. ⌜ r ≡ Spec.room past ⌝ }
+{
+    let mut exc = [0i16; 314];
+    copy(&mut exc[..154], &past[..]);
+    exc
+}
+
+fn kept(exc: &[i16]) -> [i16; 154]
+    requires { ⌜ length (now exc) ≡ 314 ⌝ }
+    ensures { λ r. ⌜ r ≡ Spec.kept (now (exc .entry)) ⌝ }
+{
+    let mut past = [0i16; 154];
+    copy(&mut past[..], &exc[160..314]);
+    past
+}
+
+// A subframe through the synthesis filter.
+fn synthesise(lpc: [i16; 11], input: [i16; 80], memory: [i16; 10], samples: &mut [i16]) -> [i16; 10]
+    requires { ⌜ length (now samples) ≡ 80 ⌝ }
+    ensures memory { λ r. ⌜ r ≡ Synth.memory lpc memory input ⌝ }
+    ensures samples { λ _. ⌜ now (samples .exit) ≡ Synth.synthesis lpc memory input ⌝ }
+{
+    let mut mem = memory;
+    synth::synthesis(&lpc[..], &input[..], samples, &mut mem[..]);
+    mem
+}
+
+// Both subframes, one after the other.
+fn synthesise_both(
+    first: SubframeTrace,
+    second: SubframeTrace,
+    memory: [i16; 10],
+    samples: &mut [i16],
+) -> [i16; 10]
+    requires { ⌜ length (now samples) ≡ 160 ⌝ }
+    ensures memory { λ r. ⌜ r ≡ Spec.memoryAfter first second memory ⌝ }
+    ensures samples { λ _. ⌜ now (samples .exit) ≡ Spec.synthesised first second memory ⌝ }
+{
+    let a = first.lpc;
+    let x = first.mixed_excitation;
+    let between = synthesise(a, x, memory, &mut samples[..80]);
+    let b = second.lpc;
+    let y = second.mixed_excitation;
+    synthesise(b, y, between, &mut samples[80..])
+}
+
+// A half frame, by its LSPs and its fields.
+pub fn decode(
+    words: &[i16],
+    bytes: &[u8],
+    core: Core,
+    lsp: [i16; 10],
+    params: HalfParams,
+    samples: &mut [i16],
+) -> Half
+    requires { ⌜ Sound (now words) (now bytes) ⌝ ∗ ⌜ InWidths params ⌝ ∗ ⌜ Codebook.digitsFit (now words) (params .code0) ≡ true ⌝ ∗ ⌜ Codebook.digitsFit (now words) (params .code1) ≡ true ⌝ ∗ ⌜ length (now samples) ≡ 160 ⌝ }
+    ensures half { λ r. ⌜ r ≡ Spec.half (now (words .entry)) (now (bytes .entry)) core lsp params ⌝ }
+    ensures samples { λ _. ⌜ now (samples .exit) ≡ Spec.samples (now (words .entry)) (now (bytes .entry)) core lsp params ⌝ }
+{
+    let previous = core.lsp;
+    let past = core.excitation;
+    let history = core.gains;
+    let memory = core.memory;
+    let filter = core.filter;
+    let sharpen_fixed = core.sharpen_fixed;
+    let last_half_lag = core.last_half_lag;
+    let pair = split_params(previous, lsp, params);
+    let one = pair.first;
+    let two = pair.second;
+    let mut exc = room(past);
+    let a = decode_subframe(
+        words,
+        bytes,
+        &mut exc,
+        154,
+        one,
+        sharpen_fixed,
+        last_half_lag,
+        history,
+    );
+    let first = a.trace;
+    let between = a.gains;
+    let b = decode_subframe(
+        words,
+        bytes,
+        &mut exc,
+        234,
+        two,
+        a.sharpen_fixed,
+        last_half_lag,
+        between,
+    );
+    let second = b.trace;
+    let gains = b.gains;
+    let lag = second.lag;
+    let left = synthesise_both(first, second, memory, samples);
+    let run = postfilter::run(filter, words, samples);
+    let excitation = kept(&exc[..]);
+    Half {
+        core: Core {
+            lsp,
+            excitation,
+            memory: left,
+            sharpen_fixed: b.sharpen_fixed,
+            last_half_lag: lag.integer,
+            filter: run,
+            gains,
+        },
+        first,
+        second,
+    }
+}
