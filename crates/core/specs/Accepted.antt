@@ -1,5 +1,5 @@
 -- What a half frame asks of its tables and fields, and what that gives its subframes.
-use mathlib.Core.Path.{_≡_, refl}
+use mathlib.Core.Path.{_≡_}
 use mathlib.Core.Bool.{true}
 use mathlib.Core.List.{List}
 use Prim.Native.Nat.{ℕ, _<_}
@@ -15,7 +15,6 @@ use Rattle.pitch.specs.Lags.{absolute-sane, relative-sane}
 use Rattle.codebook.specs.Sound.{SoundWords, sound-words}
 use Rattle.codebook.specs.Codebook as Codebook
 use Rattle.core.specs.declared.SubframeParams.{SubframeParams}
-use Rattle.core.specs.declared.ParamsPair.{ParamsPair}
 use Rattle.core.specs.Core.{splitParams}
 
 -- an accepted set, and the fields of an accepted half of a frame

@@ -1,14 +1,15 @@
 -- core.rs: a half frame. Two subframes, each predicted from the excitation before it, with an innovation mixed in; then synthesis and the output filter.
+use mathlib.Core.Path.{_≡_, refl}
 use mathlib.Core.Bool.{cond, _||_}
 use mathlib.Core.List.{List, _++_}
 use Prim.Native.Nat.{ℕ, _+_}
 use lib.Dec.{eqb}
-use lib.IntN.{ℤ, pos}
+use lib.IntN.{ℤ, pos, negsuc}
 use lib.ListN.{getD, take, drop, replicate}
 use lib.Signed.{ltZ}
 use lib.Ieee.{Float}
 use Rattle.sequence.specs.Rewritten.{rewritten}
-use Rattle.fixed.specs.Fixed.{clamp, fold, sat, hi, mul, shift}
+use Rattle.fixed.specs.Fixed.{residue, signed, wrap, clamp, fold, sat, hi, mul, shift}
 use Rattle.bits.specs.declared.HalfParams.{HalfParams}
 use Rattle.bits.specs.Bits as Bits
 use Rattle.lsp.specs.declared.Pair.{Pair}
@@ -31,9 +32,17 @@ use Rattle.core.specs.declared.Subframe.{Subframe}
 use Rattle.core.specs.declared.Half.{Half}
 
 -- ---- the innovation
+-- two gains for an example
+abbrev halves : InterpolationGains
+halves = record { fixed = pos 1; voiced = pos 2 }
+
 -- of the two gains of sharpening, classes 1, 2 and 5 take the second
 unfoldable pub sharpenGain : ℕ → InterpolationGains → ℤ
 sharpenGain class g = cond (eqb class 1 || eqb class 2 || eqb class 5) (g .voiced) (g .fixed)
+
+which-gain : (sharpenGain 0 halves ≡ pos 1) × (sharpenGain 1 halves ≡ pos 2) × (sharpenGain 2 halves ≡ pos 2) × (sharpenGain 3 halves ≡ pos 1) × (sharpenGain 4 halves ≡ pos 1) × (sharpenGain 5 halves ≡ pos 2)
+unfolding sharpenGain
+which-gain = (refl, refl, refl, refl, refl, refl)
 
 -- an innovation, sharpened where the lag's integer is below 80
 unfoldable pub shaped : List ℤ → Innovation → Lag → InterpolationGains → Innovation
@@ -41,6 +50,10 @@ shaped words i lag g = record {
   code = cond (ltZ (lag .integer) (pos 80)) (Pitch.sharpen (Pitch.interp words) (i .code) lag (sharpenGain (i .class) g)) (i .code);
   class = i .class;
 }
+
+at-80 : (words : List ℤ) (i : Innovation) (frac : ℤ) (g : InterpolationGains) → shaped words i (record { integer = pos 80; frac = frac }) g ≡ i
+unfolding shaped
+at-80 words i frac g = refl
 
 -- the two gains of a subframe, by its first reflection coefficient, the gain that the subframe before it left, and the last lag of the half before
 unfoldable pub sharpenGains : List ℤ → Lag → ℤ → ℤ → InterpolationGains
@@ -54,6 +67,11 @@ innovation words p sharpenFixed lastHalfLag = shaped words (Codebook.decode word
 -- a sample: the predicted one by the pitch gain, and twice the innovation's by the code gain; doubled, rounded and saturated
 unfoldable pub mixed : ℤ → ℤ → ℤ → ℤ → ℤ
 mixed pitch code a c = hi (sat (fold (shift (fold (mul a pitch) (shift (mul c code) (pos 1))) (pos 1)) (pos 32768)))
+
+-- a pitch gain of 16384 takes over the predicted sample, a code gain of 8192 the innovation's; a sum that is too large is saturated
+passed : (mixed (pos 16384) (pos 0) (pos 1000) (pos 7) ≡ pos 1000) × (mixed (pos 0) (pos 8192) (pos 7) (negsuc 999) ≡ negsuc 999) × (mixed (pos 32767) (pos 32767) (pos 32767) (pos 32767) ≡ pos 32767)
+unfolding mixed fold clamp mul shift wrap signed residue
+passed = (refl, refl, refl)
 
 -- sample n from place start on, and the 80 of them, each mixed with the innovation's
 abbrev pub mixedAt : ℤ → ℤ → List ℤ → ℕ → ℕ → List ℤ → ℤ
@@ -78,6 +96,10 @@ part exc start = take 80 (drop start exc)
 -- the gain that it leaves: its pitch gain, within 3277 to 13017
 unfoldable pub clamped : ℤ → ℤ
 clamped pitch = clamp (pos 3277) (pos 13017) pitch
+
+ends : (clamped (pos 0) ≡ pos 3277) × (clamped (pos 5000) ≡ pos 5000) × (clamped (pos 32767) ≡ pos 13017)
+unfolding clamped clamp
+ends = (refl, refl, refl)
 
 -- by the innovation and the gains that it has: its trace, and what the next subframe starts from
 unfoldable pub traced : SubframeParams → List Float → Innovation → Decoded → List ℤ → Subframe

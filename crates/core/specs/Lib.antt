@@ -2,3 +2,4 @@ pub mod Core
 pub mod Accepted
 pub mod Figures
 pub mod Kept
+pub mod Room

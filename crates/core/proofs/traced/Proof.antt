@@ -1,7 +1,6 @@
 -- The numbers as they are, and the gain that is left as it was clamped.
 use borrow.Author.Needs.{needs}
 use mathlib.Core.Path.{_≡_, _∙_}
-use lib.IntN.{ℤ}
 use mir.Syntax.{w16}
 use mir.Val.{toZ, ofZ}
 use Rattle.fixed.specs.Machine.{back}
