@@ -1,0 +1,82 @@
+-- What the set's number says of the two tests that it joins, and what is known of a frame that no test refuses.
+use Prim.Native.Nat.{ℕ}
+use mathlib.Core.Path.{_≡_, refl, sym, ap, _∙_}
+use mathlib.Core.List.{List}
+use mathlib.Core.Bool.{Bool, true, false, cond, _&&_}
+use native.Mathlib.Omega.{arith}
+use borrow.Author.Tests.{eq-eqb}
+use lib.Bits.{bitAnd}
+use lib.Dec.{eqb}
+use lib.IntN.{ℤ}
+use lib.ListN.{length, getD}
+use Rattle.sequence.specs.First.{some}
+use Rattle.tables.specs.Places.{WORDS, BYTES}
+use Rattle.tables.specs.Tables.{broken, check}
+use Rattle.tables.specs.Sound.{Sound}
+use Rattle.bits.specs.declared.FrameParams.{FrameParams}
+use Rattle.bits.specs.Bits.{unpack, fields, fieldsOf}
+use Rattle.bits.specs.Widths.{InWidths, within-names, fields-within}
+use Rattle.frame.specs.Frame as Frame
+use Rattle.celp.specs.declared.State.{State}
+use Rattle.celp.specs.Celp.{refusal, carried, decoded, accepted, decode, samples}
+use Rattle.celp.specs.Cases.{decode-accepted, samples-accepted}
+use Rattle.celp.specs.Accepted.{accepted-means}
+
+module _ (words : List ℤ) (bytes : List ℕ) where
+  pub wrong-lengths : check words bytes ≡ 1 → (eqb (length words) WORDS && eqb (length bytes) BYTES) ≡ false
+  unfolding check
+  wrong-lengths e = by (eqb (length words) WORDS && eqb (length bytes) BYTES) (some (broken words bytes) 7) e
+    where
+      by : (a b : Bool) → _≡_ {A = ℕ} (cond a (cond b 4 0) 1) 1 → a ≡ false
+      by true true e = absurd (omega arith)
+      by true false e = absurd (omega arith)
+      by false b e = refl
+
+  pub right-lengths : (n : ℕ) → n ≡ check words bytes → (n ≡ 1 → ⊥) → (eqb (length words) WORDS && eqb (length bytes) BYTES) ≡ true
+  unfolding check
+  right-lengths n e h = by (eqb (length words) WORDS && eqb (length bytes) BYTES) e
+    where
+      by : (a : Bool) → n ≡ cond a (cond (some (broken words bytes) 7) 4 0) 1 → a ≡ true
+      by true e = refl
+      by false e = absurd (h e)
+
+  pub broken-rule : (n : ℕ) → n ≡ check words bytes → (n ≡ 1 → ⊥) → (n ≡ 0 → ⊥) → some (broken words bytes) 7 ≡ true
+  unfolding check
+  broken-rule n e h g = by (eqb (length words) WORDS && eqb (length bytes) BYTES) (some (broken words bytes) 7) e
+    where
+      by : (a b : Bool) → n ≡ cond a (cond b 4 0) 1 → b ≡ true
+      by true true e = refl
+      by true false e = absurd (g e)
+      by false b e = absurd (h e)
+
+-- a payload of 20 bytes with nothing in its last two bits has fields
+pub in-order : (p : List ℕ) → length p ≡ 20 → bitAnd (getD p 19 0) 0xc0 ≡ 0 → fields (unpack p) ≡ fieldsOf p
+unfolding unpack
+in-order p l e = rw (eq-eqb (length p) 20 l, eq-eqb (bitAnd (getD p 19 0) 192) 0 e)
+
+-- what is known where a frame is decoded, and what comes of it: n is the number that the tests gave, f the fields that were read
+pub record Ready (words : List ℤ) (bytes : List ℕ) (s : State) (payload : List ℕ) (old : List ℤ) (f : FrameParams) : Type 0 where
+  pub set-sound : Sound words bytes
+  pub first-within : InWidths (f .first)
+  pub second-within : InWidths (f .second)
+  pub digits-fit : Frame.digitsFit words f ≡ true
+  pub samples-long : length old ≡ 320
+  pub answered : accepted (s .mark) (Frame.decode words bytes (carried s) (s .residuals) f) ≡ decode words bytes s payload (length old)
+  pub left : Frame.samples words bytes (carried s) (s .residuals) f ≡ samples words bytes s payload old
+
+pub ready : (words : List ℤ) (bytes : List ℕ) (s : State) (payload : List ℕ) (old : List ℤ) (f : FrameParams) (n : ℕ)
+    → n ≡ refusal words bytes s payload (length old) → n ≡ 0 → f ≡ fields (unpack payload) → Ready words bytes s payload old f
+unfolding decoded
+ready words bytes s payload old f n e z q =
+    let a = accepted-means words bytes s payload (length old) (sym e ∙ z) in
+    let g : f ≡ fieldsOf payload = q ∙ in-order payload (a .payload-long) (a .no-padding) in
+    let w = within-names (fieldsOf payload) (fields-within payload) in
+    record {
+      set-sound = a .set-sound;
+      first-within = rw g (w .0);
+      second-within = rw g (w .1);
+      digits-fit = rw g (a .digits-fit);
+      samples-long = a .samples-long;
+      answered = rw g (decode-accepted words bytes s payload (length old) (sym e ∙ z));
+      left = rw g (samples-accepted words bytes s payload old (sym e ∙ z));
+    }

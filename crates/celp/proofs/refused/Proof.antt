@@ -1,0 +1,18 @@
+-- The parts that the calls give are the definition's.
+use borrow.Author.Needs.{needs}
+use Rattle.celp.specs.Celp.{refused}
+use Rattle.celp.proofs.refused.Statement.{statement}
+use Rattle.celp.proofs.refused.Tie as tie
+
+marked-requires : tie.Need-marked-requires
+marked-requires c κs = search needs
+
+silent-requires : tie.Need-silent-requires
+silent-requires c κs = search needs
+
+returns : tie.Need-returns
+unfolding refused
+returns c = rw (c .before .marked .ensures, c .silent .ensures)
+
+pub refused-spec : {M : Type 1} → statement M
+refused-spec = tie.close (tie.spec marked-requires silent-requires returns)

@@ -1,0 +1,28 @@
+-- By the set's refusal number.
+use borrow.Author.Needs.{needs}
+use mathlib.Core.Path.{sym, ap, _∙_}
+use Rattle.tables.specs.Rules.{accepted-only}
+use Rattle.celp.specs.Cases.{started-refused, started-accepted}
+use Rattle.celp.specs.declared.State.{State}
+use Rattle.celp.specs.declared.Returned.{Returned}
+use Rattle.celp.proofs.started.Statement.{statement}
+use Rattle.celp.proofs.started.Tie as tie
+
+check-requires : tie.Need-check-requires
+check-requires c κs = search needs
+
+all-zero-requires : tie.Need-all-zero-requires
+all-zero-requires c κs = search needs
+
+returns : tie.Need-returns
+returns c = rw (c .all-zero .ensures) (started-refused _ _ _ _ (c .before .before .check .ensures) (c .before .if1 .taken))
+
+initial-requires : tie.Need-initial-requires
+initial-requires c κs = let a = accepted-only _ _ (sym (c .before .check .ensures) ∙ c .if1 .left) in (a .0, a .1)
+
+returns-2 : tie.Need-returns-2
+returns-2 c = rw (c .initial .ensures) (started-accepted _ _ _ (sym (c .before .before .check .ensures) ∙ c .before .if1 .left))
+
+pub started-spec : {M : Type 1} → statement M
+started-spec =
+    tie.close (tie.spec check-requires all-zero-requires returns initial-requires returns-2)

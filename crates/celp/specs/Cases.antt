@@ -1,0 +1,50 @@
+-- The two ways that each call goes: refused, or not.
+use Prim.Native.Nat.{ℕ, zero, suc}
+use mathlib.Core.Path.{_≡_, refl}
+use mathlib.Core.List.{List}
+use lib.IntN.{ℤ}
+use lib.ListN.{length}
+use Rattle.tables.specs.Tables.{check}
+use Rattle.bits.specs.Bits.{fieldsOf}
+use Rattle.frame.specs.Frame as Frame
+use Rattle.celp.specs.declared.State.{State}
+use Rattle.celp.specs.State.{allZero, marked, initial, startedBy, started}
+use Rattle.celp.specs.Celp.{refusal, refused, carried, decoded, accepted, answer, decode, written, samples}
+
+module _ (words : List ℤ) (bytes : List ℕ) (m : ℕ) where
+  pub started-refused : (n : ℕ) → n ≡ check words bytes → (n ≡ 0 → ⊥) → record { number = n; state = allZero } ≡ started words bytes m
+  unfolding started startedBy
+  started-refused zero e h = absurd (h refl)
+  started-refused (suc n) e h = rw (← e)
+
+  pub started-accepted : check words bytes ≡ 0 → record { number = 0; state = initial words bytes m } ≡ started words bytes m
+  unfolding started startedBy
+  started-accepted e = rw e
+
+module _ (words : List ℤ) (bytes : List ℕ) (s : State) (payload : List ℕ) where
+  pub decode-refused : (room n : ℕ) → n ≡ refusal words bytes s payload room → (n ≡ 0 → ⊥) → refused n s ≡ decode words bytes s payload room
+  unfolding decode answer
+  decode-refused room zero e h = absurd (h refl)
+  decode-refused room (suc n) e h = rw (← e)
+
+  -- the state of a refused decode is the one that came, with mark 0
+  pub refused-state : (room : ℕ) → (refusal words bytes s payload room ≡ 0 → ⊥) → decode words bytes s payload room .state ≡ marked s 0
+  unfolding decode answer refused
+  refused-state room h = by (refusal words bytes s payload room) h
+    where
+      by : (n : ℕ) → (n ≡ 0 → ⊥) → answer n words bytes s payload .state ≡ marked s 0
+      by zero h = absurd (h refl)
+      by (suc n) h = refl
+
+  pub decode-accepted : (room : ℕ) → refusal words bytes s payload room ≡ 0 → accepted (s .mark) (decoded words bytes s payload) ≡ decode words bytes s payload room
+  unfolding decode answer
+  decode-accepted room e = rw e
+
+  pub samples-refused : (old : List ℤ) (n : ℕ) → n ≡ refusal words bytes s payload (length old) → (n ≡ 0 → ⊥) → old ≡ samples words bytes s payload old
+  unfolding samples written
+  samples-refused old zero e h = absurd (h refl)
+  samples-refused old (suc n) e h = rw (← e)
+
+  pub samples-accepted : (old : List ℤ) → refusal words bytes s payload (length old) ≡ 0 → Frame.samples words bytes (carried s) (s .residuals) (fieldsOf payload) ≡ samples words bytes s payload old
+  unfolding samples written
+  samples-accepted old e = rw e

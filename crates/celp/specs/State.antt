@@ -1,0 +1,99 @@
+-- The decoder's state, handed in and handed back whole: the all-zero one, its rule, and the calls that need no frame.
+use Prim.Native.Nat.{ℕ, zero, suc, _+_}
+use mathlib.Core.Path.{_≡_, refl}
+use mathlib.Core.List.{List}
+use mathlib.Core.Bool.{Bool, true, false, _&&_, cond}
+use lib.Dec.{leb}
+use lib.IntN.{ℤ, pos}
+use lib.Ieee.{ofBits, binary32}
+use lib.ListN.{replicate}
+use Rattle.sequence.specs.All.{all}
+use Rattle.sequence.specs.Table.{table}
+use Rattle.floats.specs.Floats.{within}
+use Rattle.tables.specs.Places.{LSP-MEAN}
+use Rattle.tables.specs.Tables.{word, check}
+use Rattle.gain.specs.Gain as Gain
+use Rattle.spectral.specs.Spectral as Spectral
+use Rattle.celp.specs.declared.State.{State}
+use Rattle.celp.specs.declared.Returned.{Returned}
+
+-- every part 0
+unfoldable pub allZero : State
+allZero =
+    record {
+      lsp = replicate 10 (pos 0);
+      excitation = replicate 154 (pos 0);
+      memory = replicate 10 (pos 0);
+      «sharpen_fixed» = pos 0;
+      «last_half_lag» = pos 0;
+      fir = replicate 6 (pos 0);
+      iir = replicate 6 (pos 0);
+      residuals = replicate 30 (ofBits binary32 0);
+      gains = replicate 4 (ofBits binary32 0);
+      mark = 0;
+    }
+
+-- the same state with another mark
+abbrev pub marked : State → ℕ → State
+marked s m =
+    record {
+      lsp = s .lsp;
+      excitation = s .excitation;
+      memory = s .memory;
+      «sharpen_fixed» = s .«sharpen_fixed»;
+      «last_half_lag» = s .«last_half_lag»;
+      fir = s .fir;
+      iir = s .iir;
+      residuals = s .residuals;
+      gains = s .gains;
+      mark = m;
+    }
+
+-- the state rule: each float finite and within ±131,072, mark 0..=2
+unfoldable pub obeys : State → Bool
+obeys s = all (within 131072) (s .residuals) && (all (within 131072) (s .gains) && leb (s .mark) 2)
+
+-- the all-zero state obeys it, and with a mark of 3 it does not
+zero-obeys : (obeys allZero ≡ true) × (obeys (marked allZero 3) ≡ false)
+unfolding obeys allZero ofBits within
+zero-obeys = (refl, refl)
+
+-- the ten words of LSP_MEAN
+unfoldable pub lspMean : List ℤ → List ℤ
+lspMean words = table (λ k. word words (LSP-MEAN + k)) 10
+
+-- the state that a decoder starts from: Core::new, and the two histories
+unfoldable pub initial : List ℤ → List ℕ → ℕ → State
+initial words bytes m =
+    record {
+      lsp = lspMean words;
+      excitation = replicate 154 (pos 0);
+      memory = replicate 10 (pos 0);
+      «sharpen_fixed» = pos 3277;
+      «last_half_lag» = pos 60;
+      fir = replicate 6 (pos 0);
+      iir = replicate 6 (pos 0);
+      residuals = Spectral.initial words;
+      gains = Gain.initialHistory bytes;
+      mark = m;
+    }
+
+-- it, or for a refusal number the all-zero state
+unfoldable pub startedBy : ℕ → List ℤ → List ℕ → ℕ → Returned
+startedBy zero words bytes m = record { number = 0; state = initial words bytes m }
+startedBy (suc n) words bytes m = record { number = suc n; state = allZero }
+
+unfoldable pub started : List ℤ → List ℕ → ℕ → Returned
+started words bytes m = startedBy (check words bytes) words bytes m
+
+-- reset gives mark 2
+unfoldable pub reset : List ℤ → List ℕ → Returned
+reset words bytes = started words bytes 2
+
+-- a cold start the same state with 0
+unfoldable pub coldStart : List ℤ → List ℕ → Returned
+coldStart words bytes = started words bytes 0
+
+-- a missed frame sets the mark to 0, and answers 5 to a state that breaks the rule
+unfoldable pub missedFrame : State → Returned
+missedFrame s = record { number = cond (obeys s) 0 5; state = marked s 0 }

@@ -1,0 +1,364 @@
+// The decoder's calls: reset, cold start, decode, missed frame. A state is handed in and handed back whole.
+ghost use mathlib.Core.Path.{_≡_};
+ghost use Prim.Native.Nat.{_≤_};
+ghost use lib.ListN.{length, replicate};
+ghost use Rattle.sequence.specs.All.{all};
+ghost use Rattle.floats.specs.Floats.{within};
+ghost use Rattle.bits.specs.Bits as Bits;
+ghost use Rattle.celp.specs.Celp as Celp;
+ghost use Rattle.celp.specs.State.{allZero, marked, obeys, lspMean, initial, started, reset, coldStart, missedFrame};
+use bits::FrameParams;
+use bits::HalfParams;
+use bits::Unpacked;
+use core::Core;
+use frame::Decoded;
+use frame::Subframe;
+use postfilter::OutputFilter;
+
+pub struct State {
+    pub lsp: [i16; 10],
+    pub excitation: [i16; 154],
+    pub memory: [i16; 10],
+    pub sharpen_fixed: i16,
+    pub last_half_lag: i16,
+    pub fir: [i16; 6],
+    pub iir: [i32; 6],
+    pub residuals: [f32; 30],
+    pub gains: [f32; 4],
+    pub mark: u8,
+}
+
+// What a decode answers: a refusal number, or 0, the mark that the frame came with, the next state, and what is reported.
+pub struct Answer {
+    pub number: u8,
+    pub mark: u8,
+    pub state: State,
+    pub excitation: [i16; 320],
+    pub subframes: [Subframe; 4],
+}
+
+// What reset, cold start and a missed frame give: a refusal number, or 0, and a state.
+pub struct Returned {
+    pub number: u8,
+    pub state: State,
+}
+
+fn all_zero() -> State
+    ensures { λ r. ⌜ r ≡ allZero ⌝ }
+{
+    State {
+        lsp: [0; 10],
+        excitation: [0; 154],
+        memory: [0; 10],
+        sharpen_fixed: 0,
+        last_half_lag: 0,
+        fir: [0; 6],
+        iir: [0; 6],
+        residuals: [0.0; 30],
+        gains: [0.0; 4],
+        mark: 0,
+    }
+}
+
+// The same state with another mark.
+fn marked(state: State, mark: u8) -> State
+    ensures { λ r. ⌜ r ≡ marked state mark ⌝ }
+{
+    let mut s = state;
+    s.mark = mark;
+    s
+}
+
+fn all_within(floats: &[f32]) -> bool
+    ensures { λ r. ⌜ r ≡ all (within 131072) (now (floats .entry)) ⌝ }
+{
+    let mut i = 0;
+    while i < floats.len() {
+        if floats::within(floats[i], 131072) {
+            i += 1;
+        } else {
+            return false;
+        }
+    }
+    true
+}
+
+// The state rule.
+fn obeys(state: State) -> bool
+    ensures { λ r. ⌜ r ≡ obeys state ⌝ }
+{
+    if !all_within(&state.residuals) {
+        return false;
+    }
+    if !all_within(&state.gains) {
+        return false;
+    }
+    state.mark <= 2
+}
+
+fn lsp_mean(words: &[i16]) -> [i16; 10]
+    requires { ⌜ length (now words) ≡ 5963 ⌝ }
+    ensures { λ r. ⌜ r ≡ lspMean (now (words .entry)) ⌝ }
+{
+    let mut lsp = [0i16; 10];
+    let mut k = 0;
+    while k < 10 {
+        lsp[k] = tables::word(words, tables::LSP_MEAN + k);
+        k += 1;
+    }
+    lsp
+}
+
+// The state that a call starts from.
+fn initial(words: &[i16], bytes: &[u8], mark: u8) -> State
+    requires { ⌜ length (now words) ≡ 5963 ⌝ ∗ ⌜ length (now bytes) ≡ 3908 ⌝ }
+    ensures { λ r. ⌜ r ≡ initial (now (words .entry)) (now (bytes .entry)) mark ⌝ }
+{
+    let lsp = lsp_mean(words);
+    let residuals = spectral::initial(words);
+    let gains = gain::initial_history(bytes);
+    State {
+        lsp,
+        excitation: [0; 154],
+        memory: [0; 10],
+        sharpen_fixed: 3277,
+        last_half_lag: 60,
+        fir: [0; 6],
+        iir: [0; 6],
+        residuals,
+        gains,
+        mark,
+    }
+}
+
+// That state, or where the set is refused the all-zero one.
+fn started(words: &[i16], bytes: &[u8], mark: u8) -> Returned
+    ensures { λ r. ⌜ r ≡ started (now (words .entry)) (now (bytes .entry)) mark ⌝ }
+{
+    let number = tables::check(words, bytes);
+    if number != 0 {
+        return Returned {
+            number,
+            state: all_zero(),
+        };
+    }
+    Returned {
+        number: 0,
+        state: initial(words, bytes, mark),
+    }
+}
+
+pub fn reset(words: &[i16], bytes: &[u8]) -> Returned
+    ensures { λ r. ⌜ r ≡ reset (now (words .entry)) (now (bytes .entry)) ⌝ }
+{
+    started(words, bytes, 2)
+}
+
+// The same state, with mark 0.
+pub fn cold_start(words: &[i16], bytes: &[u8]) -> Returned
+    ensures { λ r. ⌜ r ≡ coldStart (now (words .entry)) (now (bytes .entry)) ⌝ }
+{
+    started(words, bytes, 0)
+}
+
+pub fn missed_frame(state: State) -> Returned
+    ensures { λ r. ⌜ r ≡ missedFrame state ⌝ }
+{
+    let s = marked(state, 0);
+    if obeys(state) {
+        return Returned {
+            number: 0,
+            state: s,
+        };
+    }
+    Returned {
+        number: 5,
+        state: s,
+    }
+}
+
+fn no_fields() -> FrameParams
+    ensures { λ r. ⌜ r ≡ Bits.frameParams (replicate 24 0) ⌝ }
+{
+    let h = HalfParams {
+        gain_low0: 0,
+        gain_low1: 0,
+        code0: 0,
+        code1: 0,
+        gain_high0: 0,
+        gain_high1: 0,
+        mode: 0,
+        stage1: 0,
+        stage2_low: 0,
+        stage2_high: 0,
+        absolute_pitch: 0,
+        relative_pitch: 0,
+    };
+    FrameParams {
+        first: h,
+        second: h,
+    }
+}
+
+fn fields(u: Unpacked) -> FrameParams
+    ensures { λ r. ⌜ r ≡ Bits.fields u ⌝ }
+{
+    match u {
+        Unpacked::Fields(f) => f,
+        Unpacked::Refused(_) => no_fields(),
+    }
+}
+
+// The refusal number, or 0: all tests, in document 01's order. The fields are the payload's, where it has any.
+fn refusal(
+    words: &[i16],
+    bytes: &[u8],
+    state: State,
+    payload: &[u8],
+    f: FrameParams,
+    room: usize,
+) -> u8
+    requires { ⌜ f ≡ Bits.fields (Bits.unpack (now payload)) ⌝ }
+    ensures { λ r. ⌜ r ≡ Celp.refusal (now (words .entry)) (now (bytes .entry)) state (now (payload .entry)) room ⌝ }
+{
+    let set = tables::check(words, bytes);
+    if set == 1 {
+        return 1;
+    }
+    if room != 320 {
+        return 2;
+    }
+    if payload.len() != 20 {
+        return 3;
+    }
+    if set != 0 {
+        return 4;
+    }
+    if !obeys(state) {
+        return 5;
+    }
+    if payload[19] & 0xc0 != 0 {
+        return 6;
+    }
+    if !frame::digits_fit(words, f) {
+        return 7;
+    }
+    0
+}
+
+fn silent() -> Subframe
+    ensures { λ r. ⌜ r ≡ Celp.silent ⌝ }
+{
+    Subframe {
+        figures: [0.0; 12],
+        lag: 0,
+        frac: 0,
+        lpc: [0; 11],
+        innovation: [0; 80],
+    }
+}
+
+fn refused(number: u8, state: State) -> Answer
+    ensures { λ r. ⌜ r ≡ Celp.refused number state ⌝ }
+{
+    let s = marked(state, 0);
+    let nothing = silent();
+    Answer {
+        number,
+        mark: 0,
+        state: s,
+        excitation: [0; 320],
+        subframes: [nothing; 4],
+    }
+}
+
+// The parts of the state that a half frame carries on.
+fn carried(state: State) -> Core
+    ensures { λ r. ⌜ r ≡ Celp.carried state ⌝ }
+{
+    let lsp = state.lsp;
+    let excitation = state.excitation;
+    let memory = state.memory;
+    let fir = state.fir;
+    let iir = state.iir;
+    let filter = OutputFilter { fir, iir };
+    let gains = state.gains;
+    Core {
+        lsp,
+        excitation,
+        memory,
+        sharpen_fixed: state.sharpen_fixed,
+        last_half_lag: state.last_half_lag,
+        filter,
+        gains,
+    }
+}
+
+// The state that a frame leaves.
+fn next(d: Decoded, mark: u8) -> State
+    ensures { λ r. ⌜ r ≡ Celp.next d mark ⌝ }
+{
+    let c = d.core;
+    let lsp = c.lsp;
+    let excitation = c.excitation;
+    let memory = c.memory;
+    let filter = c.filter;
+    let fir = filter.fir;
+    let iir = filter.iir;
+    let residuals = d.residuals;
+    let gains = c.gains;
+    State {
+        lsp,
+        excitation,
+        memory,
+        sharpen_fixed: c.sharpen_fixed,
+        last_half_lag: c.last_half_lag,
+        fir,
+        iir,
+        residuals,
+        gains,
+        mark,
+    }
+}
+
+fn raised(mark: u8) -> u8
+    ensures { λ r. ⌜ r ≡ Celp.raised mark ⌝ }
+{
+    if mark < 2 { mark + 1 } else { 2 }
+}
+
+fn accepted(mark: u8, d: Decoded) -> Answer
+    ensures { λ r. ⌜ r ≡ Celp.accepted mark d ⌝ }
+{
+    let after = raised(mark);
+    let state = next(d, after);
+    let excitation = d.excitation;
+    let subframes = d.subframes;
+    Answer {
+        number: 0,
+        mark,
+        state,
+        excitation,
+        subframes,
+    }
+}
+
+pub fn decode(
+    words: &[i16],
+    bytes: &[u8],
+    state: State,
+    payload: &[u8],
+    samples: &mut [i16],
+) -> Answer
+    ensures answer { λ r. ⌜ r ≡ Celp.decode (now (words .entry)) (now (bytes .entry)) state (now (payload .entry)) (length (now (samples .entry))) ⌝ }
+    ensures samples { λ _. ⌜ now (samples .exit) ≡ Celp.samples (now (words .entry)) (now (bytes .entry)) state (now (payload .entry)) (now (samples .entry)) ⌝ }
+{
+    let f = fields(bits::unpack(payload));
+    let number = refusal(words, bytes, state, payload, f, samples.len());
+    if number != 0 {
+        return refused(number, state);
+    }
+    let residuals = state.residuals;
+    let d = frame::decode(words, bytes, carried(state), residuals, f, samples);
+    accepted(state.mark, d)
+}

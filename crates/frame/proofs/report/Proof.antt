@@ -1,0 +1,23 @@
+-- The parts that the calls give are the definition's.
+use borrow.Author.Needs.{needs}
+use Rattle.frame.specs.Frame.{report}
+use Rattle.frame.proofs.report.Statement.{statement}
+use Rattle.frame.proofs.report.Tie as tie
+
+slice-aggregate-put-excitation : tie.Need-slice-aggregate-put-excitation
+slice-aggregate-put-excitation c = search needs
+
+put-excitation-requires : tie.Need-put-excitation-requires
+put-excitation-requires c κs = search needs
+
+subframes-requires : tie.Need-subframes-requires
+subframes-requires c κs = search needs
+
+returns : tie.Need-returns
+unfolding report
+returns c = rw (c .before .before .before .before .put-excitation .ensures, c .before .before .subframes .ensures)
+
+pub report-spec : {M : Type 1} → statement M
+report-spec =
+    tie.close
+    (tie.spec slice-aggregate-put-excitation put-excitation-requires subframes-requires returns)

@@ -1,0 +1,114 @@
+-- mod.rs's decode: the two halves of an accepted frame, one after the other, and what is reported of their subframes.
+use Prim.Native.Nat.{ℕ, _<_, _≤_}
+use mathlib.Core.List.{List, [], _∷_, _++_}
+use mathlib.Core.Bool.{Bool, _&&_}
+use lib.IntN.{ℤ, pos}
+use lib.ListN.{getD}
+use lib.Ieee.{Float, nan, binary32, ofInt}
+use Rattle.tables.specs.Tables.{logGain}
+use Rattle.bits.specs.declared.HalfParams.{HalfParams}
+use Rattle.bits.specs.declared.FrameParams.{FrameParams}
+use Rattle.codebook.specs.Codebook as Codebook
+use Rattle.gain.specs.Gain as Gain
+use Rattle.lsp.specs.Lsp as Lsp
+use Rattle.spectral.specs.Spectral as Spectral
+use Rattle.core.specs.declared.Core.{Core}
+use Rattle.core.specs.declared.Half.{Half}
+use Rattle.core.specs.declared.SubframeTrace.{SubframeTrace}
+use Rattle.core.specs.Core as HalfFrame
+use Rattle.frame.specs.declared.Subframe.{Subframe}
+use Rattle.frame.specs.declared.Step.{Step}
+use Rattle.frame.specs.declared.Both.{Both}
+use Rattle.frame.specs.declared.Decoded.{Decoded}
+
+-- ---- what refusal 7 asks, of the two code indexes of a half and of the four of a frame
+unfoldable pub halfFits : List ℤ → HalfParams → Bool
+halfFits words p = Codebook.digitsFit words (p .code0) && Codebook.digitsFit words (p .code1)
+
+unfoldable pub digitsFit : List ℤ → FrameParams → Bool
+digitsFit words f = halfFits words (f .first) && halfFits words (f .second)
+
+-- ---- a half frame: Spectral::decode, and then Core::decode
+-- its residual
+unfoldable pub residual : List ℤ → List ℕ → HalfParams → List Float
+residual words bytes p = Spectral.residual words bytes (p .stage1) (p .«stage2_low») (p .«stage2_high»)
+
+-- its LSPs, by three residuals before it and its own
+unfoldable pub predicted : List ℤ → List ℕ → List Float → List Float → ℕ → List ℤ
+predicted words bytes residuals own mode = Lsp.lsfToLsp words (Spectral.quantiseLsf (Spectral.predict residuals own bytes mode))
+
+abbrev pub lsp : List ℤ → List ℕ → List Float → HalfParams → List ℤ
+lsp words bytes residuals p = predicted words bytes residuals (residual words bytes p) (p .mode)
+
+-- the half, and the residuals with its own before them
+unfoldable pub half : List ℤ → List ℕ → Core → List Float → HalfParams → Step
+half words bytes core residuals p =
+    record {
+      half = HalfFrame.half words bytes core (lsp words bytes residuals p) p;
+      residuals = Spectral.push residuals (residual words bytes p);
+    }
+
+-- its 160 samples
+unfoldable pub halfSamples : List ℤ → List ℕ → Core → List Float → HalfParams → List ℤ
+halfSamples words bytes core residuals p = HalfFrame.samples words bytes core (lsp words bytes residuals p) p
+
+-- ---- what is reported
+-- index, correction, history, amplitude, energy, code gain, pitch gain, lag and class, each as f32
+unfoldable pub figures : List ℕ → SubframeTrace → List Float
+figures bytes t =
+    ofInt binary32 (pos (t .«gain_index»)) ∷
+    logGain bytes (t .«gain_index») ∷
+    getD (t .«gain_history») 0 nan ∷
+    getD (t .«gain_history») 1 nan ∷
+    getD (t .«gain_history») 2 nan ∷
+    getD (t .«gain_history») 3 nan ∷
+    Gain.amplitude bytes (t .«gain_history») (t .«gain_index») ∷
+    Gain.energy (t .innovation) ∷
+    ofInt binary32 (t .code) ∷
+    ofInt binary32 (t .pitch) ∷
+    ofInt binary32 (t .lag .integer) ∷
+    ofInt binary32 (pos (t .«code_class»)) ∷
+    []
+
+unfoldable pub reported : List ℕ → SubframeTrace → Subframe
+reported bytes t = record { figures = figures bytes t; lag = t .lag .integer; frac = t .lag .frac; lpc = t .lpc; innovation = t .innovation }
+
+-- the four subframes' of two halves
+unfoldable pub subframes : List ℕ → Half → Half → List Subframe
+subframes bytes x y = reported bytes (x .first) ∷ reported bytes (x .second) ∷ reported bytes (y .first) ∷ reported bytes (y .second) ∷ []
+
+-- and their excitation
+unfoldable pub excitation : Half → Half → List ℤ
+excitation x y = (x .first .«mixed_excitation» ++ x .second .«mixed_excitation») ++ (y .first .«mixed_excitation» ++ y .second .«mixed_excitation»)
+
+-- the index and the class of both subframes of a half have floats of their own
+pub record Named (x : Half) : Type 0 where
+  pub index-first : x .first .«gain_index» < 128
+  pub index-second : x .second .«gain_index» < 128
+  pub class-first : x .first .«code_class» ≤ 5
+  pub class-second : x .second .«code_class» ≤ 5
+
+-- ---- the frame
+-- its halves: the second starts from what the first leaves
+unfoldable pub halves : List ℤ → List ℕ → Core → List Float → FrameParams → Both
+halves words bytes core residuals f =
+    let a : Step = half words bytes core residuals (f .first) in
+    record { first = a; second = half words bytes (a .half .core) (a .residuals) (f .second) }
+
+unfoldable pub report : List ℕ → Both → Decoded
+report bytes h =
+    record {
+      core = h .second .half .core;
+      residuals = h .second .residuals;
+      excitation = excitation (h .first .half) (h .second .half);
+      subframes = subframes bytes (h .first .half) (h .second .half);
+    }
+
+unfoldable pub decode : List ℤ → List ℕ → Core → List Float → FrameParams → Decoded
+decode words bytes core residuals f = report bytes (halves words bytes core residuals f)
+
+-- its 320 samples
+unfoldable pub samples : List ℤ → List ℕ → Core → List Float → FrameParams → List ℤ
+samples words bytes core residuals f =
+    let a : Step = half words bytes core residuals (f .first) in
+    halfSamples words bytes core residuals (f .first) ++ halfSamples words bytes (a .half .core) (a .residuals) (f .second)
