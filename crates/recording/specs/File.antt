@@ -1,0 +1,37 @@
+-- The table file: its words, two bytes each, the low one first; then its bytes.
+use Prim.Native.Nat.{ℕ, _+_, _-_, _*_}
+use mathlib.Core.Path.{_≡_, refl}
+use mathlib.Core.List.{List}
+use mathlib.Core.Bool.{cond}
+use lib.Dec.{ltb, eqb}
+use lib.IntN.{ℤ, pos, negsuc}
+use lib.ListN.{length, getD, drop}
+use Rattle.sequence.specs.Table.{table}
+use Rattle.tables.specs.Places.{WORDS, BYTES}
+use Rattle.tables.specs.Tables.{check}
+
+-- a number of 16 bits as a signed word: the sign is its top bit
+unfoldable pub signed : ℕ → ℤ
+signed n = cond (ltb n 32768) (pos n) (negsuc (65535 - n))
+
+ends : (signed 32767 ≡ pos 32767) × (signed 32768 ≡ negsuc 32767) × (signed 65535 ≡ negsuc 0)
+unfolding signed
+ends = (refl, refl, refl)
+
+-- word k
+unfoldable pub wordAt : List ℕ → ℕ → ℤ
+wordAt file k = signed (getD file (2 * k) 0 + 256 * getD file (2 * k + 1) 0)
+
+unfoldable pub words : List ℕ → List ℤ
+words file = table (wordAt file) WORDS
+
+abbrev pub bytes : List ℕ → List ℕ
+bytes file = drop (2 * WORDS) file
+
+-- the file's refusal number: 1 for another length than 15,834, as for a file that is missing, else that of its set
+unfoldable pub checkFile : List ℕ → ℕ
+checkFile file = cond (eqb (length file) (2 * WORDS + BYTES)) (check (words file) (bytes file)) 1
+
+-- its words, or for another length what stood there before
+unfoldable pub wordsOr : List ℕ → List ℤ → List ℤ
+wordsOr file old = cond (eqb (length file) (2 * WORDS + BYTES)) (words file) old

@@ -1,0 +1,16 @@
+use Rattle.floats.specs.NoNan.{above-no-nan}
+use borrow.Author.Needs.{needs}
+use Rattle.trace.proofs.say.bits.Statement.{statement}
+use Rattle.trace.proofs.say.bits.Tie as tie
+
+float-to-bits-result : tie.Need-float-to-bits-result
+float-to-bits-result c = above-no-nan (c .before .args .x) (c .before .args .x) (c .if1 .taken)
+
+returns : tie.Need-returns
+returns c = search needs
+
+returns-2 : tie.Need-returns-2
+returns-2 c = search needs
+
+pub bits-spec : {M : Type 1} → statement M
+bits-spec = tie.close (tie.spec float-to-bits-result returns returns-2)
