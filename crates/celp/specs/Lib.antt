@@ -5,3 +5,7 @@ pub mod Run
 pub mod Mark
 pub mod Accepted
 pub mod StateRule
+pub mod Near
+pub mod Receiver
+pub mod Relied
+pub mod WorkedCall

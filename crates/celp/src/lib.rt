@@ -261,12 +261,12 @@ fn silent() -> Subframe
 fn refused(number: u8, state: State) -> Answer
     ensures { λ r. ⌜ r ≡ Celp.refused number state ⌝ }
 {
-    let s = marked(state, 0);
+    let left = marked(state, 0);
     let nothing = silent();
     Answer {
         number,
         mark: 0,
-        state: s,
+        state: left,
         excitation: [0; 320],
         subframes: [nothing; 4],
     }
@@ -327,16 +327,17 @@ fn raised(mark: u8) -> u8
     if mark < 2 { mark + 1 } else { 2 }
 }
 
-fn accepted(mark: u8, d: Decoded) -> Answer
-    ensures { λ r. ⌜ r ≡ Celp.accepted mark d ⌝ }
+// `came` is the mark that the frame came with.
+fn accepted(came: u8, d: Decoded) -> Answer
+    ensures { λ r. ⌜ r ≡ Celp.accepted came d ⌝ }
 {
-    let after = raised(mark);
+    let after = raised(came);
     let state = next(d, after);
     let excitation = d.excitation;
     let subframes = d.subframes;
     Answer {
         number: 0,
-        mark,
+        mark: came,
         state,
         excitation,
         subframes,
@@ -354,9 +355,9 @@ pub fn decode(
     ensures samples { λ _. ⌜ now (samples .exit) ≡ Celp.samples (now (words .entry)) (now (bytes .entry)) state (now (payload .entry)) (now (samples .entry)) ⌝ }
 {
     let f = fields(bits::unpack(payload));
-    let number = refusal(words, bytes, state, payload, f, samples.len());
-    if number != 0 {
-        return refused(number, state);
+    let why = refusal(words, bytes, state, payload, f, samples.len());
+    if why != 0 {
+        return refused(why, state);
     }
     let residuals = state.residuals;
     let d = frame::decode(words, bytes, carried(state), residuals, f, samples);

@@ -1,0 +1,68 @@
+-- Demand 3: what a receiver may rely on. The statement is `MayRely`, below; it is proved in Relied.antt.
+--
+-- Why two frames are enough. Lag, class and pitch gain need the frame alone. The gain history holds four log gains: one frame replaces it. An innovation is sharpened
+-- by the pitch gain of the subframe before it and the last lag of the half before it. The LPC numbers lie between the LSPs of two halves, each predicted from its
+-- own residual and the three before it: four halves, which are two frames.
+--
+-- What is not claimed. Excitation and samples, which keep some of all that was heard. And nothing follows where a loss is not reported: a receiver that is given
+-- the next frame in the place of a lost one keeps its mark, over a past that is not the sender's.
+use Prim.Native.Nat.{ℕ}
+use mathlib.Core.Path.{_≡_}
+use mathlib.Core.List.{List, [], _∷_, _++_}
+use lib.IntN.{ℤ}
+use Rattle.celp.specs.declared.State.{State}
+use Rattle.celp.specs.State.{reset}
+use Rattle.celp.specs.Celp.{refusal, decode}
+use Rattle.celp.specs.Run.{Event, heard, missed, step, run}
+
+module _ (words : List ℤ) (bytes : List ℕ) where
+  -- ---- the sender
+  -- the state after a frame, and after several
+  abbrev pub after : State → List ℕ → State
+  after t frame = decode words bytes t frame 320 .state
+
+  abbrev pub afterAll : State → List (List ℕ) → State
+  afterAll t [] = t
+  afterAll t (frame ∷ frames) = afterAll (after t frame) frames
+
+  -- a call: frames that are accepted one after the other
+  abbrev pub Call : State → List (List ℕ) → Type 0
+  Call t [] = Unit
+  Call t (frame ∷ frames) = (refusal words bytes t frame 320 ≡ 0) × Call (after t frame) frames
+
+  abbrev pub START : State
+  START = reset words bytes .state
+
+  -- ---- a receiver with the same tables
+  -- it joins at the first frame in the reset state, or at any frame in a state with mark 0, such as the cold one
+  pub data Joins : List (List ℕ) → State → Type 0 where
+    at-first : Joins [] START
+    anywhere : (before : List (List ℕ)) (s : State) → s .mark ≡ 0 → Joins before s
+
+  -- in the place of a frame it is given that frame, or a report that it is lost, or some payload that is refused
+  pub data Given (s : State) (frame : List ℕ) : Event → Type 0 where
+    whole : Given s frame (heard frame 320)
+    lost : Given s frame missed
+    spoilt : (payload : List ℕ) (room : ℕ) → (refusal words bytes s payload room ≡ 0 → ⊥) → Given s frame (heard payload room)
+
+  -- one of these in the place of each frame, in order; each call is given the state that the one before returned
+  pub data Follows : State → List (List ℕ) → List Event → Type 0 where
+    begun : {s : State} → Follows s [] []
+    placed : {s : State} {frame : List ℕ} {frames : List (List ℕ)} {e : Event} {es : List Event} → Given s frame e → Follows (step words bytes s e) frames es → Follows s (frame ∷ frames) (e ∷ es)
+
+  -- ---- what it may rely on
+  pub record MayRely : Type 0 where
+    -- A frame that it answers with mark 2 has the sender's figures: of each subframe the lag and its fraction, the twelve gain figures, class among them,
+    -- the LPC numbers and the shaped innovation.
+    pub figures : (before since : List (List ℕ)) (frame : List ℕ) (s : State) (es : List Event)
+        → Call START ((before ++ since) ++ frame ∷ [])
+        → Joins before s
+        → Follows s since es
+        → decode words bytes (run words bytes s es) frame 320 .mark ≡ 2
+        → decode words bytes (run words bytes s es) frame 320 .subframes ≡ decode words bytes (afterAll START (before ++ since)) frame 320 .subframes
+    -- After two calls in a row that each accept a frame the next frame, if it is accepted, is answered with mark 2.
+    pub two-in-a-row : (s : State) (one two frame : List ℕ)
+        → refusal words bytes s one 320 ≡ 0
+        → refusal words bytes (after s one) two 320 ≡ 0
+        → refusal words bytes (after (after s one) two) frame 320 ≡ 0
+        → decode words bytes (after (after s one) two) frame 320 .mark ≡ 2

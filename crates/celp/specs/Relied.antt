@@ -1,0 +1,93 @@
+-- What a receiver may rely on, proved: at each place its state is as near to the sender's as its mark says.
+use Prim.Native.Nat.{ℕ, zero, suc, _+_, min}
+use mathlib.Core.Path.{_≡_, refl, sym, _∙_}
+use mathlib.Core.List.{List, [], _∷_, _++_}
+use native.Mathlib.Omega.{arith}
+use mathlib.Core.Bool.{true}
+use lib.Dec.{leb}
+use lib.IntN.{ℤ}
+use Rattle.tables.specs.Tables.{check}
+use Rattle.spectral.specs.Kept.{Words16}
+use Rattle.celp.specs.declared.State.{State}
+use Rattle.celp.specs.State.{startedBy, started, coldStart, initial, allZero}
+use Rattle.celp.specs.Celp.{refusal, decode}
+use Rattle.celp.specs.Cases.{started-accepted}
+use Rattle.celp.specs.Run.{Event, heard, step, run}
+use Rattle.celp.specs.Mark.{mark-answered, mark-rises, mark-refused, mark-missed}
+use Rattle.celp.specs.Accepted.{accepted-means, refusal-same}
+use Rattle.celp.specs.StateRule.{Obeying, initial-obeying, run-obeying}
+use Rattle.celp.specs.Near.{Near, near-zero, near-self, near-next, near-reports}
+use Rattle.celp.specs.Receiver.{after, afterAll, Call, START, Joins, at-first, anywhere, Given, whole, lost, spoilt, Follows, begun, placed, MayRely}
+
+module _ (words : List ℤ) (bytes : List ℕ) where
+  -- ---- a call in two parts
+  after-append : (t : State) (a b : List (List ℕ)) → afterAll words bytes t (a ++ b) ≡ afterAll words bytes (afterAll words bytes t a) b
+  after-append t [] b = refl
+  after-append t (x ∷ a) b = after-append (after words bytes t x) a b
+
+  call-first : (t : State) (a b : List (List ℕ)) → Call words bytes t (a ++ b) → Call words bytes t a
+  call-first t [] b c = tt
+  call-first t (x ∷ a) b c = (c .0, call-first (after words bytes t x) a b (c .1))
+
+  call-rest : (t : State) (a b : List (List ℕ)) → Call words bytes t (a ++ b) → Call words bytes (afterAll words bytes t a) b
+  call-rest t [] b c = c
+  call-rest t (x ∷ a) b c = call-rest (after words bytes t x) a b (c .1)
+
+  -- ---- along both
+  joined : (before : List (List ℕ)) (s : State) → Joins words bytes before s → Near s (afterAll words bytes (START words bytes) before)
+  joined before s at-first = near-self s
+  joined before s (anywhere b r z) = near-zero s _ z
+
+  near-step : (s t : State) (frame : List ℕ) (e : Event) → Near s t → refusal words bytes t frame 320 ≡ 0 → Given words bytes s frame e → Near (step words bytes s e) (after words bytes t frame)
+  unfolding step
+  near-step s t frame e n a lost = near-zero _ _ (mark-missed words bytes s)
+  near-step s t frame e n a (spoilt payload room h) = near-zero _ _ (mark-refused words bytes s payload room h)
+  near-step s t frame e n a whole = by (refusal words bytes s frame 320) refl
+    where
+      by : (k : ℕ) → refusal words bytes s frame 320 ≡ k → Near (step words bytes s (heard frame 320)) (after words bytes t frame)
+      by zero z = near-next words bytes s t frame 320 n z a
+      by (suc k) z = near-zero _ _ (mark-refused words bytes s frame 320 (λ q. omega arith))
+
+  followed : (s t : State) (frames : List (List ℕ)) (es : List Event) → Near s t → Call words bytes t frames → Follows words bytes s frames es → Near (run words bytes s es) (afterAll words bytes t frames)
+  unfolding run
+  followed s t frames es n c begun = n
+  followed s t frames es n c (placed g f) = followed _ _ _ _ (near-step s t _ _ n (c .0) g) (c .1) f
+
+  -- ---- the theorem
+  pub receiver-may-rely : MayRely words bytes
+  unfolding step
+  receiver-may-rely = record {
+    figures = λ before since frame s es c j f m.
+        let t = afterAll words bytes (START words bytes) before in
+        let d = call-rest (START words bytes) before since (call-first (START words bytes) (before ++ since) (frame ∷ []) c) in
+        let n = followed s t since es (joined before s j) d f in
+        near-reports words bytes (run words bytes s es) (afterAll words bytes (START words bytes) (before ++ since)) frame 320 (rw (after-append (START words bytes) before since) n) (call-rest (START words bytes) (before ++ since) (frame ∷ []) c .0) m;
+    two-in-a-row = λ s one two frame a b c.
+        let x = mark-rises words bytes s one 320 a in
+        let y = mark-rises words bytes (after words bytes s one) two 320 b in
+        mark-answered words bytes (after words bytes (after words bytes s one) two) frame 320 c ∙ omega arith;
+  }
+
+  -- ---- states to join in
+  -- reset and a cold start of an accepted set obey the state rule
+  pub started-obeying : Words16 words → check words bytes ≡ 0 → (m : ℕ) → leb m 2 ≡ true → Obeying (started words bytes m .state)
+  started-obeying w c m l = rw (← started-accepted words bytes m c) (initial-obeying words bytes w c m l)
+
+  -- the cold state is one to join in
+  pub cold-joins : (before : List (List ℕ)) → Joins words bytes before (coldStart words bytes .state)
+  unfolding coldStart started startedBy initial allZero
+  cold-joins before = anywhere before _ (by (check words bytes))
+    where
+      by : (n : ℕ) → startedBy n words bytes 0 .state .mark ≡ 0
+      by zero = refl
+      by (suc n) = refl
+
+  -- what the sender accepts its receiver accepts too, if the state that it joined in obeys the rule
+  pub accepts-too : Words16 words → (frames : List (List ℕ)) (frame : List ℕ) (s : State) (es : List Event)
+      → Call words bytes (START words bytes) (frames ++ frame ∷ [])
+      → Obeying s
+      → refusal words bytes (run words bytes s es) frame 320 ≡ 0
+  accepts-too w frames frame s es c o =
+      let t = afterAll words bytes (START words bytes) frames in
+      let a = call-rest (START words bytes) frames (frame ∷ []) c .0 in
+      refusal-same words bytes (run words bytes s es) t frame 320 (run-obeying words bytes w s es o .rule) (accepted-means words bytes t frame 320 a .state-obeys) ∙ a
