@@ -2,7 +2,9 @@
 //!
 //! oracle questions MODULE [SEED]        questions for a module, a line each
 //! oracle answers MODULE [TABLES]        the Rust's answers to the questions on standard input
-//! oracle trace TABLES                   every figure of every frame of the recording on standard input, from reset
+//! oracle timed TABLES                   the recording on standard input decoded from reset, and a sum over its samples
+//! oracle trace TABLES [junk]            every figure of every frame of the recording on standard input, from reset; with junk
+//!                                       in the places that no frame may depend on
 //! oracle frames COUNT [SEED]            that many random frames as lines of hexadecimal, damaged ones among them
 //! oracle set KIND [SEED]                a table set of 15,834 bytes (sets.rs says which kinds)
 use std::io::{self, BufRead, Read, Write};
@@ -73,7 +75,13 @@ fn main() {
             lent::fill(&std::fs::read(&words[1]).expect("the table file"));
             let mut recording = Vec::new();
             io::stdin().lock().read_to_end(&mut recording).unwrap();
-            Native::trace(&recording, &mut out);
+            Native::trace(&recording, words.get(2).is_some_and(|w| w == "junk"), &mut out);
+        }
+        Some("timed") => {
+            lent::fill(&std::fs::read(&words[1]).expect("the table file"));
+            let mut recording = Vec::new();
+            io::stdin().lock().read_to_end(&mut recording).unwrap();
+            writeln!(out, "{}", Native::timed(&recording)).unwrap();
         }
         Some("frames") => {
             let count: usize = words[1].parse().expect("a count");

@@ -128,15 +128,37 @@ impl Tracer {
 }
 
 impl Native {
-    /// The recording's lines, traced from reset.
-    pub fn trace(recording: &[u8], out: &mut impl Write) {
+    /// The recording's frames decoded from reset and nothing printed but a sum over all samples: for timing.
+    pub fn timed(recording: &[u8]) -> i64 {
+        let mut native = Native::default();
+        let mut sum = 0;
+        for p in recording.split(|&c| c == b'\n').filter_map(payload) {
+            if refusal(&p) == 0 {
+                let seen = native.decode(&p).unwrap();
+                sum += seen.pcm.iter().map(|&x| x as i64).sum::<i64>();
+            }
+        }
+        sum
+    }
+
+    /// The recording's lines, traced from reset. With junk, what the next frame must not depend on is spoilt before it:
+    /// the 160 excitation samples behind the 154, sharpen_voiced and previous_lag.
+    pub fn trace(recording: &[u8], junk: bool, out: &mut impl Write) {
         let mut tracer = Tracer::new();
         tracer.state(out);
         let text = recording.strip_suffix(b"\n").unwrap_or(recording);
         if recording.is_empty() {
             return;
         }
-        for row in text.split(|&c| c == b'\n') {
+        for (n, row) in text.split(|&c| c == b'\n').enumerate() {
+            if junk {
+                let core = &mut tracer.native.core;
+                for (k, x) in core.excitation[154..].iter_mut().enumerate() {
+                    *x = (31 * n + 577 * k) as i16;
+                }
+                core.sharpen_voiced = -(n as i16);
+                core.previous_lag = (n % 300) as i16;
+            }
             match payload(row) {
                 Some(p) => tracer.frame(&p, out),
                 None => tracer.refused(9, out),
