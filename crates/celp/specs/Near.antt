@@ -1,6 +1,6 @@
 -- What a mark says of a receiver's state, held against the sender's before the same frame: above 0 that the last frame was the same, 2 that the last two were.
 use Prim.Native.Nat.{ℕ, zero, suc, _+_, _≤_, min}
-use mathlib.Core.Path.{_≡_, refl, sym, ap, _∙_}
+use mathlib.Core.Path.{_≡_, refl}
 use mathlib.Core.List.{List}
 use native.Mathlib.Omega.{arith}
 use lib.IntN.{ℤ}

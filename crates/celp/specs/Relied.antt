@@ -1,6 +1,6 @@
 -- What a receiver may rely on, proved: at each place its state is as near to the sender's as its mark says.
-use Prim.Native.Nat.{ℕ, zero, suc, _+_, min}
-use mathlib.Core.Path.{_≡_, refl, sym, _∙_}
+use Prim.Native.Nat.{ℕ, zero, suc}
+use mathlib.Core.Path.{_≡_, refl, _∙_}
 use mathlib.Core.List.{List, [], _∷_, _++_}
 use native.Mathlib.Omega.{arith}
 use mathlib.Core.Bool.{true}
@@ -10,7 +10,7 @@ use Rattle.tables.specs.Tables.{check}
 use Rattle.spectral.specs.Kept.{Words16}
 use Rattle.celp.specs.declared.State.{State}
 use Rattle.celp.specs.State.{startedBy, started, coldStart, initial, allZero}
-use Rattle.celp.specs.Celp.{refusal, decode}
+use Rattle.celp.specs.Celp.{refusal}
 use Rattle.celp.specs.Cases.{started-accepted}
 use Rattle.celp.specs.Run.{Event, heard, step, run}
 use Rattle.celp.specs.Mark.{mark-answered, mark-rises, mark-refused, mark-missed}

@@ -1,6 +1,6 @@
 -- A worked call: document 01's bare set and zero frames meet every premise of what a receiver may rely on.
-use Prim.Native.Nat.{ℕ, zero, suc, _+_, _<_, _≤_}
-use mathlib.Core.Path.{_≡_, refl, _∙_}
+use Prim.Native.Nat.{ℕ, zero, suc, _<_, _≤_}
+use mathlib.Core.Path.{_≡_, refl}
 use mathlib.Core.Bool.{Bool, true, false}
 use mathlib.Core.List.{List, [], _∷_, _++_}
 use native.Mathlib.Omega.{arith}
@@ -8,7 +8,7 @@ use borrow.Author.Tests.{ltb-true, ltb-false}
 use lib.Dec.{ltb}
 use lib.IntN.{ℤ, pos}
 use lib.Signed.{mag}
-use lib.ListN.{length, getD, replicate, set, List·getD-eq-default}
+use lib.ListN.{length, replicate, set, List·getD-eq-default}
 use Rattle.sequence.specs.All.{all, all-at}
 use Rattle.sequence.specs.First.{firstFrom}
 use Rattle.tables.specs.Tables.{word}

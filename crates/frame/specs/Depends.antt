@@ -1,7 +1,7 @@
 -- What a frame's figures see of the past. After the same frame two decoders agree on gain history, sharpening gain, last lag and twenty of the thirty residuals,
 -- whatever they started from; after one more on the LSPs and all residuals too; and from there on the figures of each frame are the same.
 use mathlib.Core.Path.{_≡_, refl, sym, ap, _∙_}
-use mathlib.Core.List.{List, _∷_}
+use mathlib.Core.List.{List}
 use Prim.Native.Nat.{ℕ}
 use lib.IntN.{ℤ}
 use lib.Ieee.{Float}
@@ -15,7 +15,6 @@ use Rattle.core.specs.declared.SubframeTrace.{SubframeTrace}
 use Rattle.core.specs.Core as HalfFrame
 use Rattle.core.specs.Figures.{left-lsp, left-fixed, left-lag}
 use Rattle.core.specs.Depends as Core
-use Rattle.frame.specs.declared.Subframe.{Subframe}
 use Rattle.frame.specs.declared.Decoded.{Decoded}
 use Rattle.frame.specs.Frame.{residual, lsp, half, figures, reported, subframes, halves, report, decode}
 
@@ -45,7 +44,7 @@ module _ (words : List ℤ) (bytes : List ℕ) (f : FrameParams) where
   abbrev frame : Core → List Float → Decoded
   frame c r = decode words bytes c r f
 
-  -- from anything
+  -- from anything that two decoders start from
   pub frame-one : (c d : Core) (r q : List Float) → AfterOne (frame c r .core) (frame d q .core) (frame c r .residuals) (frame d q .residuals)
   unfolding decode report halves half residual Spectral.push Spectral.residual table
   frame-one c d r q = record {
@@ -55,6 +54,7 @@ module _ (words : List ℤ) (bytes : List ℕ) (f : FrameParams) where
     residuals = refl;
   }
 
+  -- from what agrees as after one
   pub frame-two : (c d : Core) (r q : List Float) → AfterOne c d r q → AfterTwo (frame c r .core) (frame d q .core) (frame c r .residuals) (frame d q .residuals)
   unfolding decode report halves half Spectral.push
   frame-two c d r q a =
@@ -69,7 +69,7 @@ module _ (words : List ℤ) (bytes : List ℕ) (f : FrameParams) where
         residuals = rw (a .residuals);
       }
 
-  -- two halves that see the same
+  -- from what agrees as after two: both halves see the same
   pub frame-figures : (c d : Core) (r q : List Float) → AfterTwo c d r q → frame c r .subframes ≡ frame d q .subframes
   unfolding decode report halves half
   frame-figures c d r q a =
@@ -80,7 +80,3 @@ module _ (words : List ℤ) (bytes : List ℕ) (f : FrameParams) where
       (subframes-same bytes x (HalfFrame.half words bytes (x .core) (lsp words bytes h (f .second)) (f .second)) y (HalfFrame.half words bytes (y .core) (lsp words bytes h (f .second)) (f .second))
       (Core.half-figures words bytes (lsp words bytes q (f .first)) (f .first) c d (a .alike))
       (Core.half-figures words bytes (lsp words bytes h (f .second)) (f .second) (x .core) (y .core) (Core.half-alike words bytes (lsp words bytes q (f .first)) (f .first) c d (a .alike .gains))))
-
-  -- and such frames leave the same again
-  pub two-one : (c d : Core) (r q : List Float) → AfterTwo c d r q → AfterOne c d r q
-  two-one c d r q a = record { fixed = a .alike .fixed; lag = a .alike .lag; gains = a .alike .gains; residuals = ap (take 20) (a .residuals) }

@@ -1,3 +1,4 @@
+mod Calls
 mod Digits
 mod Stores
 mod Words

@@ -1,14 +1,16 @@
 -- The table file: its words, two bytes each, the low one first; then its bytes.
-use Prim.Native.Nat.{ℕ, _+_, _-_, _*_}
+use Prim.Native.Nat.{ℕ, _+_, _-_, _*_, _<_}
 use mathlib.Core.Path.{_≡_, refl}
 use mathlib.Core.List.{List}
-use mathlib.Core.Bool.{cond}
+use mathlib.Core.Bool.{Bool, true, false, _&&_, cond}
+use native.Mathlib.Omega.{arith}
 use lib.Dec.{ltb, eqb}
 use lib.IntN.{ℤ, pos, negsuc}
 use lib.ListN.{length, getD, drop}
 use Rattle.sequence.specs.Table.{table}
 use Rattle.tables.specs.Places.{WORDS, BYTES}
-use Rattle.tables.specs.Tables.{check}
+use Rattle.sequence.specs.First.{some}
+use Rattle.tables.specs.Tables.{broken, check}
 
 -- a number of 16 bits as a signed word: the sign is its top bit
 unfoldable pub signed : ℕ → ℤ
@@ -35,3 +37,19 @@ checkFile file = cond (eqb (length file) (2 * WORDS + BYTES)) (check (words file
 -- its words, or for another length what stood there before
 unfoldable pub wordsOr : List ℕ → List ℤ → List ℤ
 wordsOr file old = cond (eqb (length file) (2 * WORDS + BYTES)) (words file) old
+
+-- ---- laws
+below : (b : Bool) (n x : ℕ) → n < 10 → x < 10 → cond b n x < 10
+below true n x p q = p
+below false n x p q = q
+
+small : (file : List ℕ) → checkFile file < 10
+unfolding checkFile check
+small file =
+    below (eqb (length file) 15834) _ 1
+    (below (eqb (length (words file)) WORDS && eqb (length (bytes file)) BYTES) _ 1 (below (some (broken (words file) (bytes file)) 7) 4 0 (omega arith) (omega arith)) (omega arith))
+    (omega arith)
+
+-- the number has one digit
+pub file-number-small : {n : ℕ} (file : List ℕ) → n ≡ checkFile file → n < 10
+file-number-small file e = let h = small file in omega arith

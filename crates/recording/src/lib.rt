@@ -9,11 +9,27 @@ ghost use Rattle.sequence.specs.All.{all};
 ghost use Rattle.recording.specs.Text as Text;
 ghost use Rattle.recording.specs.Held as Held;
 ghost use Rattle.recording.specs.File as File;
+ghost use Rattle.recording.specs.Recording as Recording;
+ghost use Rattle.recording.specs.Fed as Fed;
+ghost use Rattle.celp.specs.Run.{heard};
+use celp::State;
 
 // What is kept of the line that is coming in: its first 40 bytes, and how many it has, counted to 41.
 pub struct Line {
     pub text: [u8; 40],
     pub n: usize,
+}
+
+// Where a recording stands: the decoder's state, and the line that is coming in.
+pub struct Recorder {
+    pub state: State,
+    pub line: Line,
+}
+
+// The end of a line: how long its text is, and the state that its call returned.
+pub struct Said {
+    pub n: usize,
+    pub state: State,
 }
 
 pub fn empty() -> Line
@@ -231,4 +247,56 @@ pub fn check_file(file: &[u8], words: &mut [i16]) -> u8
     }
     put_words(file, words);
     tables::check(words, &file[11926..])
+}
+
+// From reset, with no line open.
+pub fn begin(words: &[i16], bytes: &[u8]) -> Recorder
+    ensures { λ r. ⌜ r ≡ Fed.begin (now (words .entry)) (now (bytes .entry)) ⌝ }
+{
+    let r = celp::reset(words, bytes);
+    let state = r.state;
+    let line = empty();
+    Recorder { state, line }
+}
+
+// A frame's call: its text goes over the beginning of out.
+fn hear(words: &[i16], bytes: &[u8], state: State, payload: [u8; 20], out: &mut [u8]) -> Said
+    requires { ⌜ 1283 ≤ length (now out) ⌝ }
+    ensures said { λ r. ⌜ r ≡ Fed.called (now (words .entry)) (now (bytes .entry)) state (heard payload 320) ⌝ }
+    ensures text { λ _. ⌜ now (out .exit) ≡ Text.over (Recording.text (now (words .entry)) (now (bytes .entry)) state (heard payload 320)) (now (out .entry)) ⌝ }
+    ensures fits { λ r. ⌜ r .n ≤ 1283 ⌝ }
+{
+    let mut samples = [0i16; 320];
+    let a = celp::decode(words, bytes, state, &payload, &mut samples);
+    let next = a.state;
+    let number = a.number;
+    if number != 0 {
+        return Said {
+            n: put_refused(number, out),
+            state: next,
+        };
+    }
+    Said {
+        n: put_frame(a.mark, &samples, out),
+        state: next,
+    }
+}
+
+// The end of a line: its text goes over the beginning of out.
+pub fn say(words: &[i16], bytes: &[u8], state: State, line: Line, out: &mut [u8]) -> Said
+    requires { ⌜ 1283 ≤ length (now out) ⌝ }
+    ensures said { λ r. ⌜ r ≡ Fed.said (now (words .entry)) (now (bytes .entry)) state line ⌝ }
+    ensures text { λ _. ⌜ now (out .exit) ≡ Text.over (Recording.text (now (words .entry)) (now (bytes .entry)) state (Fed.heldEvent line)) (now (out .entry)) ⌝ }
+    ensures fits { λ r. ⌜ r .n ≤ 1283 ⌝ }
+{
+    if held_frame(line) {
+        let text = line.text;
+        return hear(words, bytes, state, payload(text), out);
+    }
+    let r = celp::missed_frame(state);
+    let next = r.state;
+    Said {
+        n: put_refused(9, out),
+        state: next,
+    }
 }

@@ -1,0 +1,4 @@
+// The decoding program on a recording that ends in mid-line.
+fn main() {
+    console::run();
+}

@@ -1,0 +1,4 @@
+// The decoding program with no table file.
+fn main() {
+    console::run();
+}

@@ -1,0 +1,76 @@
+-- What the decoding program writes: all of it follows from the bytes of the table file and of its input.
+use Prim.Native.Nat.{ℕ, zero, suc}
+use mathlib.Core.Path.{_≡_, refl, ap}
+use mathlib.Core.List.{List, [], _∷_, _++_}
+use mathlib.Core.Bool.{Bool, true, false, cond}
+use native.Mathlib.Omega.{arith}
+use lib.Dec.{eqb, ltb}
+use lib.IntN.{ℤ, pos}
+use lib.ListN.{length, take, replicate, length-take}
+use lib.Seq.{take-all}
+use borrow.Author.Tests.{ltb-true, ltb-false, ne-eqb}
+use Rattle.celp.specs.declared.State.{State}
+use Rattle.celp.specs.declared.Answer.{Answer}
+use Rattle.celp.specs.State.{reset}
+use Rattle.celp.specs.Celp as Celp
+use Rattle.celp.specs.Run.{Event, heard, missed, step}
+use Rattle.recording.specs.Text.{digit, isFrame, payload, frameText, refusedText, tablesRefusedText}
+use Rattle.recording.specs.Lines.{lines}
+use Rattle.recording.specs.File as File
+
+-- the call that a line stands for: one that is not 40 hex digits counts as a missed frame
+unfoldable pub event : List ℕ → Event
+event line = cond (isFrame line) (heard (payload line) 320) missed
+
+-- the sample buffer before a frame
+abbrev pub blank : List ℤ
+blank = replicate 320 (pos 0)
+
+-- what decode's answer is printed as, with the samples that it left in the buffer
+unfoldable pub answerText : Answer → List ℤ → List ℕ
+answerText a samples = cond (eqb (a .number) 0) (frameText (a .mark) samples) (refusedText (a .number))
+
+-- what a call is printed as
+unfoldable pub text : List ℤ → List ℕ → State → Event → List ℕ
+text words bytes s (heard payload room) = answerText (Celp.decode words bytes s payload room) (Celp.samples words bytes s payload blank)
+text words bytes s missed = refusedText 9
+
+-- what lines are printed as, one after the other, each line's call being given the state that the one before returned
+unfoldable pub texts : List ℤ → List ℕ → State → List (List ℕ) → List ℕ
+texts words bytes s [] = []
+texts words bytes s (line ∷ rest) = text words bytes s (event line) ++ texts words bytes (step words bytes s (event line)) rest
+
+-- a recording, from reset
+unfoldable pub transcript : List ℤ → List ℕ → List ℕ → List ℕ
+transcript words bytes input = texts words bytes (reset words bytes .state) (lines input)
+
+-- all that the program writes, by the table file's refusal number
+unfoldable pub output : ℕ → List ℕ → List ℕ → List ℕ
+output zero file input = transcript (File.words file) (File.bytes file) input
+output (suc n) file input = tablesRefusedText (suc n)
+
+unfoldable pub program : List ℕ → List ℕ → List ℕ
+program file input = output (File.checkFile file) file input
+
+-- ---- the first 15,835 bytes of a table file tell what all of them do: one that is longer is refused as it is
+pub first-bytes : (file input : List ℕ) → program (take 15835 file) input ≡ program file input
+unfolding program File.checkFile output
+first-bytes file input = by (ltb 15835 (length file)) refl
+  where
+    by : (long : Bool) → ltb 15835 (length file) ≡ long → program (take 15835 file) input ≡ program file input
+    by false e = ap (λ (f : List ℕ). program f input) (take-all 15835 file (ltb-false 15835 (length file) e))
+    by true e =
+        let h = ltb-true 15835 (length file) e in
+        let t = length-take 15835 file in
+        rw (ne-eqb (length file) 15834 (λ z. omega arith), ne-eqb (length (take 15835 file)) 15834 (λ z. omega arith))
+
+-- ---- examples
+-- a missing table file, whatever the input
+no-file : (input : List ℕ) → program [] input ≡ 116 ∷ 97 ∷ 98 ∷ 108 ∷ 101 ∷ 115 ∷ 32 ∷ 114 ∷ 101 ∷ 102 ∷ 117 ∷ 115 ∷ 101 ∷ 100 ∷ 32 ∷ 49 ∷ 10 ∷ []
+unfolding program File.checkFile output tablesRefusedText refusedText digit
+no-file input = refl
+
+-- an empty line is `refused 9`, of any state
+empty-line : (words : List ℤ) (bytes : List ℕ) (s : State) → text words bytes s (event []) ≡ 114 ∷ 101 ∷ 102 ∷ 117 ∷ 115 ∷ 101 ∷ 100 ∷ 32 ∷ 57 ∷ 10 ∷ []
+unfolding event isFrame text refusedText digit
+empty-line words bytes s = refl
