@@ -1,9 +1,9 @@
 // A recording as text: frames come in as lines of hexadecimal, samples go out as lines of hexadecimal.
 ghost use mathlib.Core.Path.{_≡_};
 ghost use mathlib.Core.Bool.{true};
-ghost use mathlib.Core.List.{[], _∷_};
+ghost use mathlib.Core.List.{[]};
 ghost use Prim.Native.Nat.{_+_, _*_, _%_, _≤_, _<_};
-ghost use lib.ListN.{length, getD};
+ghost use lib.ListN.{length};
 ghost use lib.Seq.{sets};
 ghost use Rattle.sequence.specs.All.{all};
 ghost use Rattle.recording.specs.Text as Text;
@@ -12,6 +12,7 @@ ghost use Rattle.recording.specs.File as File;
 ghost use Rattle.recording.specs.Recording as Recording;
 ghost use Rattle.recording.specs.Fed as Fed;
 ghost use Rattle.celp.specs.Run.{heard};
+ghost use Rattle.celp.specs.State.{missedFrame};
 use celp::State;
 
 // What is kept of the line that is coming in: its first 40 bytes, and how many it has, counted to 41.
@@ -282,6 +283,14 @@ fn hear(words: &[i16], bytes: &[u8], state: State, payload: [u8; 20], out: &mut 
     }
 }
 
+// The state that a missed frame leaves.
+fn missed(state: State) -> State
+    ensures { λ r. ⌜ r ≡ missedFrame state .state ⌝ }
+{
+    let r = celp::missed_frame(state);
+    r.state
+}
+
 // The end of a line: its text goes over the beginning of out.
 pub fn say(words: &[i16], bytes: &[u8], state: State, line: Line, out: &mut [u8]) -> Said
     requires { ⌜ 1283 ≤ length (now out) ⌝ }
@@ -293,8 +302,7 @@ pub fn say(words: &[i16], bytes: &[u8], state: State, line: Line, out: &mut [u8]
         let text = line.text;
         return hear(words, bytes, state, payload(text), out);
     }
-    let r = celp::missed_frame(state);
-    let next = r.state;
+    let next = missed(state);
     Said {
         n: put_refused(9, out),
         state: next,

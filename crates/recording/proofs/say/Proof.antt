@@ -35,8 +35,8 @@ returns c =
     let w = c .before .before .hear .ensures in
     rw (← (h .ensures), c .before .before .before .before .before .before .if1 .taken, ← (c .before .before .before .before .payload .ensures)) w
 
-missed-frame-requires : tie.Need-missed-frame-requires
-missed-frame-requires c κs = search needs
+missed-requires : tie.Need-missed-requires
+missed-requires c κs = search needs
 
 put-refused-requires : tie.Need-put-refused-requires
 put-refused-requires c κs = search needs
@@ -47,9 +47,9 @@ same-length-2 c = search needs
 returns-2 : tie.Need-returns-2
 unfolding said called text step heldEvent refusedText
 returns-2 c =
-    let h = c .before .before .before .before .before .before .before .held-frame in
+    let h = c .before .before .before .before .before .before .held-frame in
     let p = c .before .before .put-refused .ensures in
-    rw (← (h .ensures), c .before .before .before .before .before .before .if1 .left, c .before .before .before .before .before .missed-frame .ensures, p .0) (refl, (p .1, omega arith))
+    rw (← (h .ensures), c .before .before .before .before .before .if1 .left, c .before .before .before .before .missed .ensures, p .0) (refl, (p .1, omega arith))
 
 pub say-spec : {M : Type 1} → statement M
 say-spec =
@@ -60,7 +60,7 @@ say-spec =
     hear-requires
     same-length
     returns
-    missed-frame-requires
+    missed-requires
     put-refused-requires
     same-length-2
     returns-2)
