@@ -38,6 +38,10 @@ sub-le a b c d h = leZ-yes (go (ltb a b) (ltb c d) refl refl)
     go false true p q = absurd (omega (arith, ltb-false a b p, ltb-true c d q))
     go false false p q = le→leb (a - b) (c - d) (omega (arith, ltb-false a b p, ltb-false c d q))
 
+-- of two terms either may come in first
+pub add-swap : (a b c : ℤ) → a +ℤ b +ℤ c ≡ a +ℤ c +ℤ b
+add-swap a b c = +ℤ-assoc a b c ∙ ap (λ (z : ℤ). a +ℤ z) (+ℤ-comm b c) ∙ sym (+ℤ-assoc a c b)
+
 -- ---- the product: over a sum, and of three
 pub mul-add : (a b c : ℤ) → (a +ℤ b) *ℤ c ≡ a *ℤ c +ℤ b *ℤ c
 mul-add a b c = ℤ-ind (λ (x : ℤ). (a +ℤ x) *ℤ c ≡ a *ℤ c +ℤ x *ℤ c) none (λ n. up (pos n)) (λ n. down (negℤ (pos n))) b

@@ -1,8 +1,9 @@
 -- Sums in the accumulator, `total fold s f n`: s, and then f 0, f 1, .. f (n - 1) folded in. What a loop over such a sum asks, whose local holds the sum's bits.
 use native.Mathlib.Omega.{arith}
-use mathlib.Core.Path.{_≡_, refl, ap, _∙_}
+use mathlib.Core.Path.{_≡_, refl, ap, sym, _∙_}
 use Prim.Native.Nat.{ℕ, zero, suc, _≤_, _<_, _+_, _*_}
 use native.Mathlib.Nat.{suc-mul}
+use native.Mathlib.Numerals.{add-one}
 use lib.IntN.{ℤ, natAbs, _+ℤ_}
 use mir.Syntax.{w64}
 use mir.Val.{toZ, ofZ}
@@ -10,6 +11,7 @@ use mir.ValLaws.{toZ-ofZ}
 use Rattle.sequence.specs.Total.{total, total-again, total-keeps}
 use Rattle.fixed.specs.Fixed.{acc, fold}
 use Rattle.fixed.specs.Abs.{abs-add}
+use Rattle.fixed.specs.Integers.{add-swap}
 use Rattle.fixed.specs.Wrap.{wrap-add, wrap-add-right, acc-fits}
 use Rattle.fixed.specs.Machine.{sfits-abs}
 use Rattle.fixed.specs.Bounds.{abs-fold}
@@ -22,6 +24,20 @@ fold-acc s t = wrap-add 40 s t
 pub fold-acc-right : (s t : ℤ) → fold s (acc t) ≡ fold s t
 unfolding fold
 fold-acc-right s t = wrap-add-right 40 s t
+
+-- terms may come in in another order
+pub fold-swap : (s t u : ℤ) → fold (fold s t) u ≡ fold (fold s u) t
+unfolding fold
+fold-swap s t u = wrap-add 40 (s +ℤ t) u ∙ ap acc (add-swap s t u) ∙ sym (wrap-add 40 (s +ℤ u) t)
+
+-- the first of them last
+pub sum-first : (s : ℤ) (f : ℕ → ℤ) (n : ℕ) → total fold s f (suc n) ≡ fold (total fold s (λ (k : ℕ). f (k + 1)) n) (f 0)
+unfolding total
+sum-first s f zero = refl
+sum-first s f (suc n) =
+    ap (λ (x : ℤ). fold x (f (suc n))) (sum-first s f n)
+    ∙ fold-swap (total fold s (λ (k : ℕ). f (k + 1)) n) (f 0) (f (suc n))
+    ∙ ap (λ (m : ℕ). fold (fold (total fold s (λ (k : ℕ). f (k + 1)) n) (f m)) (f 0)) (sym (add-one n))
 
 -- where the sum fits it is the sum
 pub fold-fits : (s t : ℤ) → natAbs s + natAbs t < 549755813888 → fold s t ≡ s +ℤ t

@@ -137,14 +137,23 @@ fn absolute(v: i64) -> i64
     if v < 0 { -v } else { v }
 }
 
+// The low 16 bits of 16383 by a size, fifteen steps. By a normalised size the steps are one division.
+fn reciprocal_bits(size: i16) -> i64
+    ensures { λ r. ⌜ r ≡ pos (Fixed.residue 65536 (Fixed.restoringDivide (pos 1073676288) size 15)) ⌝ }
+{
+    if size >= 16384 {
+        return (536838144 / (size as u32)) as i64;
+    }
+    restoring_divide(1073676288, size, 15) & 65535
+}
+
 // 16383 by a normalised number's size, without its sign.
 fn size_reciprocal(n: i64) -> i64
     requires { ⌜ natAbs n ≤ 549755813888 ⌝ }
     ensures { λ r. ⌜ r ≡ Fixed.sizeReciprocal n ⌝ }
 {
     let size = (sat(absolute(n)) >> 16) as i16;
-    let quotient = restoring_divide(1073676288, size, 15);
-    acc((quotient & 65535) * 65536)
+    acc(reciprocal_bits(size) * 65536)
 }
 
 pub struct Reciprocal {

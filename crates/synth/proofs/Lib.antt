@@ -1,1 +1,2 @@
 mod Window
+mod Late

@@ -5,14 +5,13 @@ use mathlib.Core.Path.{_≡_, refl, _∙_, ap}
 use Prim.Native.Nat.{ℕ, _<_}
 use lib.IntN.{ℤ, pos, natAbs, _*ℤ_}
 use lib.Signed.{mag, shrZ}
-use lib.Bits.{bitAnd}
 use mir.Syntax.{w16, w64}
 use mir.Val.{SFits, toZ, ofZ}
 use mir.ValLaws.{toZ-ofZ}
 use Rattle.fixed.specs.Fixed as Fixed
 use Rattle.fixed.specs.Abs.{abs-mul-le, mag-shr-is}
 use Rattle.fixed.specs.Wrap.{residue-lt}
-use Rattle.fixed.specs.Machine.{sfits-abs, back, mask, shr-sfits}
+use Rattle.fixed.specs.Machine.{sfits-abs, back, shr-sfits}
 use Rattle.fixed.specs.Bounds.{mag-sat}
 use Rattle.fixed.proofs.size_reciprocal.Statement.{statement}
 use Rattle.fixed.proofs.size_reciprocal.Tie as tie
@@ -50,21 +49,18 @@ module _ (c : tie.After-sat) where
 cast-size : tie.Need-cast-size
 cast-size c = simp (S-back c, half-back c) (half-fits c)
 
-restoring-divide-requires : tie.Need-restoring-divide-requires
-restoring-divide-requires c κs = search needs
+reciprocal-bits-requires : tie.Need-reciprocal-bits-requires
+reciprocal-bits-requires c κs = search needs
 
-module _ (c : tie.After-restoring-divide) where
-  abbrev D : ℤ
-  D = c .restoring-divide .result
-
+module _ (c : tie.After-reciprocal-bits) where
   abbrev R : ℕ
-  R = Fixed.residue 65536 D
+  R = Fixed.residue 65536 (Fixed.restoringDivide (pos 1073676288) (shrZ (S (c .before)) 65536) 15)
 
-  R-is : toZ w64 (bitAnd (ofZ w64 D) 65535) ≡ pos R
-  R-is = mask 16 48 D refl (omega arith) (record { sfits = c .restoring-divide .ok })
+  R-is : toZ w64 (ofZ w64 (c .reciprocal-bits .result)) ≡ pos R
+  R-is = back w64 (c .reciprocal-bits .result) (c .reciprocal-bits .ok) ∙ simp (S-back (c .before), half-back (c .before), toZ-ofZ w16 _ (half-fits (c .before))) at (c .reciprocal-bits .ensures)
 
   P-fits : SFits w64 (pos R *ℤ pos 65536)
-  P-fits = sfits-abs w64 _ (omega (arith, abs-mul-le (pos R) (pos 65536) 65536 65536 (omega (arith, residue-lt 65536 D (omega arith))) (omega arith)))
+  P-fits = sfits-abs w64 _ (omega (arith, abs-mul-le (pos R) (pos 65536) 65536 65536 (omega (arith, residue-lt 65536 (Fixed.restoringDivide (pos 1073676288) (shrZ (S (c .before)) 65536) 15) (omega arith))) (omega arith)))
 
 mul-acc : tie.Need-mul-acc
 mul-acc c = simp (R-is c) (P-fits c)
@@ -76,11 +72,9 @@ returns : tie.Need-returns
 unfolding Fixed.sizeReciprocal
 returns c =
     let d = c .before in
-    let s = d .before in
     back w64 (c .acc .result) (c .acc .ok)
     ∙ simp (R-is d, toZ-ofZ w64 _ (P-fits d)) at (c .acc .ensures)
-    ∙ ap (λ (z : ℤ). Fixed.acc (pos (Fixed.residue 65536 z) *ℤ pos 65536)) (simp (S-back s, half-back s, toZ-ofZ w16 _ (half-fits s)) at (d .restoring-divide .ensures))
-    ∙ ap (λ (z : ℤ). Fixed.acc (pos (Fixed.residue 65536 (Fixed.restoringDivide (pos 1073676288) (shrZ z 65536) 15)) *ℤ pos 65536)) (S-is s)
+    ∙ ap (λ (z : ℤ). Fixed.acc (pos (Fixed.residue 65536 (Fixed.restoringDivide (pos 1073676288) (shrZ z 65536) 15)) *ℤ pos 65536)) (S-is (d .before))
 
 pub size-reciprocal-spec : {M : Type 1} → statement M
-size-reciprocal-spec = tie.close (tie.spec absolute-requires sat-requires cast-size restoring-divide-requires mul-acc acc-requires returns)
+size-reciprocal-spec = tie.close (tie.spec absolute-requires sat-requires cast-size reciprocal-bits-requires mul-acc acc-requires returns)

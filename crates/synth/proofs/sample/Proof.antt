@@ -1,55 +1,22 @@
--- One call after the other; the input at bit 16 and the rounding constant have 33 bits.
+-- One call after the other; the last output's term may come in at the end.
 use borrow.Author.Needs.{needs}
-use native.Mathlib.Omega.{arith}
-use mathlib.Core.Path.{_≡_, _∙_, ap}
-use lib.IntN.{ℤ, pos, natAbs, _+ℤ_, _*ℤ_}
-use Prim.Native.Nat.{ℕ, _≤_}
+use mathlib.Core.Path.{_≡_, _∙_, ap, sym}
+use lib.IntN.{ℤ, pos, _+ℤ_, _*ℤ_}
 use mir.Syntax.{w16, w64}
-use mir.Val.{SFits, toZ, ofZ}
+use mir.Val.{toZ, ofZ}
 use mir.ValLaws.{toZ-ofZ}
 use Rattle.fixed.specs.Fixed as Fixed
-use Rattle.fixed.specs.Abs.{abs-add, abs-mul-le}
-use Rattle.fixed.specs.Machine.{abs-sfits, sfits-abs, back, widens, widened}
+use Rattle.fixed.specs.Machine.{back}
 use Rattle.synth.specs.Synth as Synth
+use Rattle.synth.proofs.Late.{late-prediction}
 use Rattle.synth.proofs.sample.Statement.{statement}
 use Rattle.synth.proofs.sample.Tie as tie
 
-prediction-requires : tie.Need-prediction-requires
-prediction-requires c κs = search needs
+known-requires : tie.Need-known-requires
+known-requires c κs = search needs
 
-shift-requires : tie.Need-shift-requires
-shift-requires c κs = search needs
-
-module _ (c : tie.After-shift) where
-  abbrev b : tie.Start
-  b = c .before .before
-
-  abbrev x : ℤ
-  x = b .args .x
-
-  v-is : toZ w64 (ofZ w64 (c .shift .result)) ≡ Fixed.shift (Synth.prediction (b .args .a .now) (b .args .history .now)) (pos 3)
-  v-is = cc (back w64 (c .shift .result) (c .shift .ok), back w64 (c .before .prediction .result) (c .before .prediction .ok))
-
-  x-back : toZ w64 (ofZ w64 (toZ w16 (ofZ w16 x))) ≡ x
-  x-back = widened tt (b .fits .x)
-
-  m-le : natAbs (x *ℤ pos 65536) ≤ 2147483648
-  m-le = abs-mul-le x (pos 65536) 32768 65536 (abs-sfits w16 x (b .fits .x)) (omega arith)
-
-  m-fits : SFits w64 (x *ℤ pos 65536)
-  m-fits = sfits-abs w64 _ (omega (arith, m-le))
-
-  t-fits : (r : ℕ) → r ≤ 65536 → SFits w64 (x *ℤ pos 65536 +ℤ pos r)
-  t-fits r h = sfits-abs w64 _ (omega (arith, m-le, abs-add (x *ℤ pos 65536) (pos r)))
-
-cast-fold : tie.Need-cast-fold
-cast-fold c = widens tt (c .before .before .fits .x)
-
-mul-fold : tie.Need-mul-fold
-mul-fold c = simp (x-back c) (m-fits c)
-
-add-fold : tie.Need-add-fold
-add-fold c = simp (x-back c, toZ-ofZ w64 _ (m-fits c)) (t-fits c _ (omega arith))
+last-requires : tie.Need-last-requires
+last-requires c κs = search needs
 
 fold-requires : tie.Need-fold-requires
 fold-requires c κs = search needs
@@ -63,13 +30,17 @@ hi-requires c κs = search needs
 returns : tie.Need-returns
 unfolding Synth.sample
 returns c =
-    let k = c .before .before .before in
-    let f = c .before .before .fold in
     let t = c .before .sat in
+    let f = c .before .before .fold in
+    let l = c .before .before .before .last in
+    let k = c .before .before .before .before .known in
+    let b = c .before .before .before .before .before in
+    let k-is = back w64 (k .result) (k .ok) ∙ simp (toZ-ofZ w16 _ (b .fits .x)) at (k .ensures) in
+    let l-is = back w64 (l .result) (l .ok) ∙ l .ensures in
     back w16 (c .hi .result) (c .hi .ok)
     ∙ simp (back w64 (t .result) (t .ok)) at (c .hi .ensures)
     ∙ ap (λ (z : ℤ). Fixed.hi z) (simp (back w64 (f .result) (f .ok)) at (t .ensures))
-    ∙ ap (λ (z : ℤ). Fixed.hi (Fixed.sat z)) (simp (x-back k, v-is k, toZ-ofZ w64 _ (m-fits k), toZ-ofZ w64 _ (t-fits k 32768 (omega arith))) at (f .ensures))
+    ∙ ap (λ (z : ℤ). Fixed.hi (Fixed.sat z)) (simp (k-is, l-is) at (f .ensures) ∙ sym (late-prediction (b .args .a .now) (b .args .history .now) (b .args .x *ℤ pos 65536 +ℤ pos 32768)))
 
 pub sample-spec : {M : Type 1} → statement M
-sample-spec = tie.close (tie.spec prediction-requires shift-requires cast-fold mul-fold add-fold fold-requires sat-requires hi-requires returns)
+sample-spec = tie.close (tie.spec known-requires last-requires fold-requires sat-requires hi-requires returns)

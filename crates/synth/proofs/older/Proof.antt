@@ -1,4 +1,4 @@
--- The loop's sum is the total of the terms so far.
+-- The loop's sum is the total of the terms so far, which are those after the first.
 use borrow.Author.Needs.{needs}
 use native.Mathlib.Omega.{arith}
 use mathlib.Core.Path.{_≡_, refl, _∙_, ap}
@@ -16,18 +16,24 @@ use Rattle.fixed.specs.Machine.{sfits-abs, back}
 use Rattle.fixed.specs.Bounds.{abs-mul16}
 use Rattle.fixed.specs.Sums.{sum-back, sum-again}
 use Rattle.synth.specs.Synth as Synth
-use Rattle.synth.proofs.prediction.Statement.{statement}
-use Rattle.synth.proofs.prediction.Tie as tie
+use Rattle.synth.proofs.older.Statement.{statement}
+use Rattle.synth.proofs.older.Tie as tie
+
+abbrev later : List ℤ → List ℤ → ℕ → ℤ
+later a h k = Synth.term a h (k + 1)
 
 abbrev Inv-loop : tie.InvT-loop
-Inv-loop a history sum₀ k₀ sum k = (k ≤ 10) × (sum ≡ ofZ w64 (total Fixed.fold (pos 0) (Synth.term a history) k))
+Inv-loop a history sum₀ k₀ sum k = (k ≤ 9) × (sum ≡ ofZ w64 (total Fixed.fold (pos 0) (later a history) k))
 
 abbrev μ-loop : tie.MeasureT-loop
-μ-loop a history sum₀ k₀ sum k = 10 - k
+μ-loop a history sum₀ k₀ sum k = 9 - k
 
 loop-holds : tie.Need-loop-holds Inv-loop μ-loop
 unfolding total
 loop-holds c = (omega arith, refl)
+
+add-back : tie.Need-add-back Inv-loop μ-loop
+add-back c = omega arith
 
 add-mul : tie.Need-add-mul Inv-loop μ-loop
 add-mul c = omega arith
@@ -64,22 +70,22 @@ module _ (c : tie.After-mul Inv-loop μ-loop) where
   abbrev hs : List ℤ
   hs = l .before .args .history .now
 
-  x-fits : SFits w16 (getD cs (k + 1) (pos 0))
+  x-fits : SFits w16 (getD cs (k + 1 + 1) (pos 0))
   x-fits = record { sfits = c .before .before .mul-arg .given }
 
-  y-fits : SFits w16 (getD hs (9 - k) (pos 0))
+  y-fits : SFits w16 (getD hs (9 - (k + 1)) (pos 0))
   y-fits = record { sfits = c .before .mul-arg2 .given }
 
-  product : toZ w64 (ofZ w64 (c .mul .result)) ≡ Fixed.mul (getD cs (k + 1) (pos 0)) (getD hs (9 - k) (pos 0))
+  product : toZ w64 (ofZ w64 (c .mul .result)) ≡ Fixed.mul (getD cs (k + 1 + 1) (pos 0)) (getD hs (9 - (k + 1)) (pos 0))
   product = back w64 (c .mul .result) (c .mul .ok) ∙ simp (toZ-ofZ w16 _ x-fits, toZ-ofZ w16 _ y-fits) at (c .mul .ensures)
 
-  minus : pos 0 -ℤ toZ w64 (ofZ w64 (c .mul .result)) ≡ Synth.term cs hs k
+  minus : pos 0 -ℤ toZ w64 (ofZ w64 (c .mul .result)) ≡ later cs hs k
   minus = minus-is (toZ w64 (ofZ w64 (c .mul .result))) ∙ ap negℤ product
 
-  fits : SFits w64 (Synth.term cs hs k)
+  fits : SFits w64 (later cs hs k)
   fits =
-      let m : ℤ = Fixed.mul (getD cs (k + 1) (pos 0)) (getD hs (9 - k) (pos 0)) in
-      sfits-abs w64 _ (omega (arith, abs-neg m, abs-mul16 (getD cs (k + 1) (pos 0)) (getD hs (9 - k) (pos 0)) x-fits y-fits))
+      let m : ℤ = Fixed.mul (getD cs (k + 1 + 1) (pos 0)) (getD hs (9 - (k + 1)) (pos 0)) in
+      sfits-abs w64 _ (omega (arith, abs-neg m, abs-mul16 (getD cs (k + 1 + 1) (pos 0)) (getD hs (9 - (k + 1)) (pos 0)) x-fits y-fits))
 
 sub-fold : tie.Need-sub-fold Inv-loop μ-loop
 sub-fold c = rw (minus c) (fits c)
@@ -96,24 +102,24 @@ loop-less c = omega arith
 loop-again : tie.Need-loop-again Inv-loop μ-loop
 loop-again c =
     let b = c .before in
-    (omega arith, sum-again (pos 0) (Synth.term (cs b) (hs b)) (k b) (l b .loop .sum) (omega arith) (l b .loop .inv .1) (c .fold .result) (simp (minus b, toZ-ofZ w64 _ (fits b)) at (c .fold .ensures)))
+    (omega arith, sum-again (pos 0) (later (cs b) (hs b)) (k b) (l b .loop .sum) (omega arith) (l b .loop .inv .1) (c .fold .result) (simp (minus b, toZ-ofZ w64 _ (fits b)) at (c .fold .ensures)))
 
 returns : tie.Need-returns Inv-loop μ-loop
-unfolding Synth.prediction
 returns c =
     let l = c .before in
     let a = l .before .args .a .now in
     let h = l .before .args .history .now in
-    let e : l .loop .k ≡ 10 = omega arith in
-    sum-back (pos 0) (Synth.term a h) (l .loop .k) (l .loop .sum) (omega arith) (l .loop .inv .1) ∙ ap (total Fixed.fold (pos 0) (Synth.term a h)) e
+    let e : l .loop .k ≡ 9 = omega arith in
+    sum-back (pos 0) (later a h) (l .loop .k) (l .loop .sum) (omega arith) (l .loop .inv .1) ∙ ap (total Fixed.fold (pos 0) (later a h)) e
 
-pub prediction-spec : {M : Type 1} → statement M
-prediction-spec =
+pub older-spec : {M : Type 1} → statement M
+older-spec =
     tie.close
     (tie.spec
     Inv-loop
     μ-loop
     loop-holds
+    add-back
     add-mul
     mul-mul
     shared-slice-copy-out-mul
