@@ -1,4 +1,4 @@
--- A loop over the block b₀ that puts each sample's output in its place and carries the filter on: what is done by place n, and what is left.
+-- A loop over the block b₀ that puts what the sections give in each sample's place and carries the filter on: what is done by place n, and what is left.
 use native.Mathlib.Omega.{arith}
 use native.Mathlib.Numerals.{add-one}
 use mathlib.Core.List.{List, [], _∷_, _++_, append-nil, append-assoc}
@@ -9,7 +9,8 @@ use lib.ListN.{length, getD, take, drop, set, length-set, drop-of-length-le}
 use lib.Seq.{take-all, take-suc-set, drop-cons, drop-set-lt}
 use Rattle.postfilter.specs.declared.OutputFilter.{OutputFilter}
 use Rattle.postfilter.specs.declared.Step.{Step}
-use Rattle.postfilter.specs.Postfilter.{tapsOf, filterSample, outputs, after}
+use Rattle.postfilter.specs.Postfilter.{tapsOf, after}
+use Rattle.postfilter.specs.Unscaled.{filterSample, outputs}
 
 module _ (words : List ℤ) (f₀ : OutputFilter) (b₀ : List ℤ) where
   abbrev pub Carried : List ℤ → OutputFilter → ℕ → Type 0
@@ -22,7 +23,7 @@ module _ (words : List ℤ) (f₀ : OutputFilter) (b₀ : List ℤ) where
 
   -- a turn of the loop
   pub carried-more : (b : List ℤ) (f : OutputFilter) (n : ℕ) (s : Step) → Carried b f n → n < length b → s ≡ filterSample (tapsOf words) f (getD b n (pos 0)) → Carried (set b n (s .value)) (s .filter) (n + 1)
-  unfolding outputs after
+  unfolding outputs after filterSample
   carried-more b f n s i h e =
       let d : drop n b ≡ getD b n (pos 0) ∷ drop (suc n) b = drop-cons b n (pos 0) h in
       let k : drop (suc n) (set b n (s .value)) ≡ drop (suc n) b = drop-set-lt (suc n) b n (s .value) (omega arith) in

@@ -1,1 +1,3 @@
 mod Carried
+mod Mapped
+mod Scaling

@@ -1,1 +1,2 @@
 pub mod Postfilter
+pub mod Unscaled

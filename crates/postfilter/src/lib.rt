@@ -1,9 +1,12 @@
 // Two cascaded output reconstruction sections.
 ghost use mathlib.Core.Path.{_≡_};
 ghost use Prim.Native.Nat.{_≤_};
+ghost use mathlib.Core.List.{map};
 ghost use lib.ListN.{length};
+ghost use lib.IntN.{pos, negsuc};
 ghost use Rattle.fixed.specs.Fixed as Fixed;
 ghost use Rattle.postfilter.specs.Postfilter as Postfilter;
+ghost use Rattle.postfilter.specs.Unscaled as Unscaled;
 use fixed::fold;
 use fixed::hi;
 use fixed::mul;
@@ -34,7 +37,7 @@ struct Section {
     memory: i32,
 }
 
-// What a sample leaves: the filter, and the sample's output.
+// What a sample leaves: the filter, and what comes of the sample.
 struct Step {
     filter: OutputFilter,
     value: i16,
@@ -124,13 +127,6 @@ fn filter_section(taps: Taps, filter: OutputFilter, at: usize, value: i16) -> Se
     }
 }
 
-// The final output scaling.
-fn scaled(value: i16) -> i16
-    ensures { λ r. ⌜ r ≡ Postfilter.scaled value ⌝ }
-{
-    rounded(fold(0, mul(value, OUT_SCALE)), 1)
-}
-
 // Both sections' lines moved on by one: of words, and of 32-bit numbers.
 fn words_moved(line: [i16; 6], first: i16, second: i16) -> [i16; 6]
     ensures { λ r. ⌜ r ≡ Postfilter.moved line first second ⌝ }
@@ -144,9 +140,9 @@ fn numbers_moved(line: [i32; 6], first: i32, second: i32) -> [i32; 6]
     [first, line[0], line[1], second, line[3], line[4]]
 }
 
-// Advance both sections and apply the final output scaling.
+// Advance both sections; the scaling comes after the block.
 fn filter_sample(taps: Taps, filter: OutputFilter, value: i16) -> Step
-    ensures { λ r. ⌜ r ≡ Postfilter.filterSample taps filter value ⌝ }
+    ensures { λ r. ⌜ r ≡ Unscaled.filterSample taps filter value ⌝ }
 {
     let first = filter_section(taps, filter, 0, value);
     let second = filter_section(taps, filter, 3, first.value);
@@ -156,14 +152,14 @@ fn filter_sample(taps: Taps, filter: OutputFilter, value: i16) -> Step
     let iir = numbers_moved(numbers, first.memory, second.memory);
     Step {
         filter: OutputFilter { fir: fir, iir: iir },
-        value: scaled(second.value),
+        value: second.value,
     }
 }
 
-// Run a block through the two sections.
-pub fn run(filter: OutputFilter, words: &[i16], block: &mut [i16]) -> OutputFilter
+// Run a block through the two sections, without the scaling.
+fn sections(filter: OutputFilter, words: &[i16], block: &mut [i16]) -> OutputFilter
     requires { ⌜ length (now words) ≡ 5963 ⌝ }
-    ensures outputs { λ _. ⌜ now (block .exit) ≡ Postfilter.outputs (now (words .entry)) filter (now (block .entry)) ⌝ }
+    ensures outputs { λ _. ⌜ now (block .exit) ≡ Unscaled.outputs (now (words .entry)) filter (now (block .entry)) ⌝ }
     ensures after { λ r. ⌜ r ≡ Postfilter.after (now (words .entry)) filter (now (block .entry)) ⌝ }
 {
     let taps = taps_of(words);
@@ -176,5 +172,48 @@ pub fn run(filter: OutputFilter, words: &[i16], block: &mut [i16]) -> OutputFilt
         state = step.filter;
         n += 1;
     }
+    state
+}
+
+// A 32-bit number saturated to 16 bits.
+fn saturated(v: i32) -> i32
+    ensures { λ r. ⌜ r ≡ Fixed.clamp (negsuc 32767) (pos 32767) v ⌝ }
+{
+    if v < -32768 {
+        -32768
+    } else if 32767 < v {
+        32767
+    } else {
+        v
+    }
+}
+
+// The final output scaling: in 32 bits, which hold every product, so that several samples are scaled at a time.
+fn scaled(value: i16) -> i16
+    ensures { λ r. ⌜ r ≡ Postfilter.scaled value ⌝ }
+{
+    saturated(((value as i32) * (OUT_SCALE as i32) + 8192) >> 14) as i16
+}
+
+// Scale a block: a loop of its own, since what the sections carry from sample to sample would keep it to one at a time.
+fn scale(block: &mut [i16])
+    ensures { λ _. ⌜ now (block .exit) ≡ map Postfilter.scaled (now (block .entry)) ⌝ }
+{
+    let mut n = 0;
+    while n < block.len() {
+        let y = scaled(block[n]);
+        block[n] = y;
+        n += 1;
+    }
+}
+
+// Run a block through the two sections, and scale what comes of it.
+pub fn run(filter: OutputFilter, words: &[i16], block: &mut [i16]) -> OutputFilter
+    requires { ⌜ length (now words) ≡ 5963 ⌝ }
+    ensures outputs { λ _. ⌜ now (block .exit) ≡ Postfilter.outputs (now (words .entry)) filter (now (block .entry)) ⌝ }
+    ensures after { λ r. ⌜ r ≡ Postfilter.after (now (words .entry)) filter (now (block .entry)) ⌝ }
+{
+    let state = sections(filter, words, block);
+    scale(block);
     state
 }

@@ -1,11 +1,11 @@
 -- Each call as it is defined, the last first.
 use borrow.Author.Needs.{needs}
-use mathlib.Core.Path.{_≡_, _∙_}
+use mathlib.Core.Path.{_≡_}
 use mir.Syntax.{w16, w32}
-use mir.Val.{SFits, toZ, ofZ}
+use mir.Val.{SFits}
 use mir.ValLaws.{toZ-ofZ}
-use Rattle.fixed.specs.Machine.{back}
 use Rattle.postfilter.specs.Postfilter as Postfilter
+use Rattle.postfilter.specs.Unscaled as Unscaled
 use Rattle.postfilter.proofs.filter_sample.Statement.{statement}
 use Rattle.postfilter.proofs.filter_sample.Tie as tie
 
@@ -20,9 +20,6 @@ words-moved-requires c κs = search needs
 
 numbers-moved-requires : tie.Need-numbers-moved-requires
 numbers-moved-requires c κs = search needs
-
-scaled-requires : tie.Need-scaled-requires
-scaled-requires c κs = search needs
 
 -- the two sections
 module _ (c : tie.After-filter-section2) where
@@ -39,9 +36,9 @@ module _ (c : tie.After-filter-section2) where
   second-is = simp (toZ-ofZ w16 _ value-fits) at (c .filter-section2 .ensures)
 
 returns : tie.Need-returns
-unfolding Postfilter.filterSample
+unfolding Unscaled.filterSample Postfilter.filterSample
 returns c =
-    let n = c .before .before in
+    let n = c .before in
     let w = n .before .before .before in
     let b = w .before .before .before .before in
     let first = b .before .before .filter-section .result in
@@ -51,8 +48,7 @@ returns c =
     let u : SFits w32 (second .memory) = search needs in
     let f : w .words-moved .result ≡ Postfilter.moved (s b .args .filter .fir) (s b .args .value) (first .value) = simp (toZ-ofZ w16 _ (s b .fits .value), toZ-ofZ w16 _ (value-fits b)) at (w .words-moved .ensures) in
     let r : n .numbers-moved .result ≡ Postfilter.moved (s b .args .filter .iir) (first .memory) (second .memory) = simp (toZ-ofZ w32 _ m, toZ-ofZ w32 _ u) at (n .numbers-moved .ensures) in
-    let y : toZ w16 (ofZ w16 (c .scaled .result)) ≡ Postfilter.scaled (second .value) = back w16 (c .scaled .result) (c .scaled .ok) ∙ simp (toZ-ofZ w16 _ v) at (c .scaled .ensures) in
-    simp (y, f, r, second-is b, first-is b)
+    rw (toZ-ofZ w16 (second .value) v) (simp (f, r, second-is b, first-is b))
 
 pub filter-sample-spec : {M : Type 1} → statement M
 filter-sample-spec =
@@ -62,5 +58,4 @@ filter-sample-spec =
     filter-section-requires-2
     words-moved-requires
     numbers-moved-requires
-    scaled-requires
     returns)
