@@ -258,11 +258,12 @@ fn word(x: u8) -> u16
     x as u16
 }
 
-fn place(j: usize) -> usize
-    requires { ⌜ j < 158 ⌝ }
+// The table is lent, since a constant that is read in a loop is made anew at each turn.
+fn place(places: &[u8], j: usize) -> usize
+    requires { ⌜ (now places ≡ Bits.places) × (j < 158) ⌝ }
     ensures { λ r. ⌜ r ≡ getD Bits.places j 0 ⌝ }
 {
-    wide(PLACES[j])
+    wide(places[j])
 }
 
 fn width(k: usize) -> usize
@@ -296,15 +297,15 @@ fn bit(payload: &[u8], i: usize) -> u8
 }
 
 // The number at these places of the table.
-fn read(payload: &[u8], at: usize, width: usize) -> u16
-    requires { ⌜ (length (now payload) ≡ 20) × (at + width ≤ 158) × (width ≤ 16) ⌝ }
+fn read(places: &[u8], payload: &[u8], at: usize, width: usize) -> u16
+    requires { ⌜ (now places ≡ Bits.places) × (length (now payload) ≡ 20) × (at + width ≤ 158) × (width ≤ 16) ⌝ }
     ensures { λ r. ⌜ r ≡ Bits.read 0 (map (Bits.readBit (now (payload .entry))) (take width (drop at Bits.places))) ⌝ }
 {
     let mut v: u16 = 0;
     let mut j = at;
     let mut t = width;
     while 0 < t {
-        v = v * 2 + word(bit(payload, place(j)));
+        v = v * 2 + word(bit(payload, place(places, j)));
         j += 1;
         t -= 1;
     }
@@ -316,12 +317,13 @@ fn gather(payload: &[u8]) -> [u16; 24]
     requires { ⌜ length (now payload) ≡ 20 ⌝ }
     ensures { λ r. ⌜ r ≡ Bits.gather (Bits.readBit (now (payload .entry))) ⌝ }
 {
+    let places = PLACES;
     let mut fields = [0u16; 24];
     let mut at: usize = 0;
     let mut k: usize = 0;
     while k < 24 {
         let w = width(k);
-        fields[k] = read(payload, at, w);
+        fields[k] = read(&places[..], payload, at, w);
         at += w;
         k += 1;
     }
@@ -336,15 +338,15 @@ fn digit(v: u16, t: usize) -> u8
 }
 
 // v's digits put at these places of the table.
-fn write(bits: &mut [u8; 160], at: usize, width: usize, v: u16)
-    requires { ⌜ (at + width ≤ 158) × (width ≤ 16) ⌝ }
+fn write(places: &[u8], bits: &mut [u8; 160], at: usize, width: usize, v: u16)
+    requires { ⌜ (now places ≡ Bits.places) × (at + width ≤ 158) × (width ≤ 16) ⌝ }
     ensures { λ r. ⌜ now (bits .exit) ≡ Bits.scatter (now (bits .entry)) (take width (drop at Bits.places)) (Bits.digits width v) ⌝ }
 {
     let mut j = at;
     let mut t = width;
     while 0 < t {
         t -= 1;
-        let i = place(j);
+        let i = place(places, j);
         bits[i] = (digit(v, t) + inverted(i)) % 2;
         j += 1;
     }
@@ -354,13 +356,14 @@ fn write(bits: &mut [u8; 160], at: usize, width: usize, v: u16)
 fn spread(fields: [u16; 24]) -> [u8; 160]
     ensures { λ r. ⌜ r ≡ Bits.spread fields ⌝ }
 {
+    let places = PLACES;
     let mut bits = [0u8; 160];
     let mut at: usize = 0;
     let mut k: usize = 0;
     while k < 24 {
         let w = width(k);
         let v = fields[k];
-        write(&mut bits, at, w, v);
+        write(&places[..], &mut bits, at, w, v);
         at += w;
         k += 1;
     }

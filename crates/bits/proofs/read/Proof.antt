@@ -14,10 +14,10 @@ use Rattle.bits.proofs.read.Statement.{statement}
 use Rattle.bits.proofs.read.Tie as tie
 
 abbrev Inv-loop : tie.InvT-loop
-Inv-loop payload at width v₀ j₀ t₀ v j t = Reading (Bits.readBit payload) (Bits.read 0 (map (Bits.readBit payload) (take width (drop at Bits.places)))) v j t
+Inv-loop places payload at width v₀ j₀ t₀ v j t = Reading (Bits.readBit payload) (Bits.read 0 (map (Bits.readBit payload) (take width (drop at Bits.places)))) v j t
 
 abbrev μ-loop : tie.MeasureT-loop
-μ-loop payload at width v₀ j₀ t₀ v j t = t
+μ-loop places payload at width v₀ j₀ t₀ v j t = t
 
 loop-holds : tie.Need-loop-holds Inv-loop μ-loop
 loop-holds c = record { near = omega arith; few = omega arith; small = pow-pos _; rest = refl }
@@ -26,7 +26,7 @@ mul-v : tie.Need-mul-v Inv-loop μ-loop
 mul-v c = let l = c .before .loop in omega (arith, room 16 (l .t) (l .t - 1) (l .v) 0 (omega arith) (l .inv .few) (l .inv .small) (omega arith) .0)
 
 place-requires : tie.Need-place-requires Inv-loop μ-loop
-place-requires c κs = omega arith
+place-requires c κs = (c .before .before .before .before .pre .0, omega arith)
 
 bit-requires : tie.Need-bit-requires Inv-loop μ-loop
 bit-requires c κs = (omega arith, omega (arith, place-below (c .before .before .loop .j) (omega arith)))
@@ -36,7 +36,7 @@ word-requires c κs = search needs
 
 -- the next digit
 next : (c : tie.After-word Inv-loop μ-loop)
-    → c .word .result ≡ Bits.readBit (now (c .before .before .before .before .before .before .args .payload)) (getD Bits.places (c .before .before .before .before .loop .j) 0)
+    → c .word .result ≡ Bits.readBit (now (c .before .before .before .before .before .before .before .args .payload)) (getD Bits.places (c .before .before .before .before .loop .j) 0)
 next c = c .word .ensures ∙ c .before .bit .ensures .0 ∙ ap (Bits.readBit _) (c .before .before .place .ensures)
 
 add-v : tie.Need-add-v Inv-loop μ-loop

@@ -10,10 +10,10 @@ use Rattle.bits.proofs.write.Statement.{statement}
 use Rattle.bits.proofs.write.Tie as tie
 
 abbrev Inv-loop : tie.InvT-loop
-Inv-loop bits₀ at width v j₀ t₀ bits j t = Writing (Bits.scatter bits₀ (take width (drop at Bits.places)) (Bits.digits width v)) bits v j t
+Inv-loop places bits₀ at width v j₀ t₀ bits j t = Writing (Bits.scatter bits₀ (take width (drop at Bits.places)) (Bits.digits width v)) bits v j t
 
 abbrev μ-loop : tie.MeasureT-loop
-μ-loop bits₀ at width v j₀ t₀ bits j t = t
+μ-loop places bits₀ at width v j₀ t₀ bits j t = t
 
 loop-holds : tie.Need-loop-holds Inv-loop μ-loop
 loop-holds c = record { near = omega arith; few = omega arith; rest = refl }
@@ -22,7 +22,7 @@ sub-t : tie.Need-sub-t Inv-loop μ-loop
 sub-t c = omega arith
 
 place-requires : tie.Need-place-requires Inv-loop μ-loop
-place-requires c κs = omega arith
+place-requires c κs = (c .before .before .before .pre .0, omega arith)
 
 digit-requires : tie.Need-digit-requires Inv-loop μ-loop
 digit-requires c κs = omega arith
