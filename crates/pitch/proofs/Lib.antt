@@ -1,3 +1,5 @@
 mod Fraction
 mod Naturals
 mod Taps
+mod Sums
+mod Filter

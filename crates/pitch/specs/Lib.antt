@@ -1,4 +1,5 @@
 pub mod Pitch
+pub mod Window
 pub mod Lags
 pub mod Kept
 pub mod Cases

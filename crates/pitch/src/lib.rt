@@ -1,13 +1,13 @@
 // Lags in thirds of a sample, the adaptive codebook's prediction, and pitch sharpening.
+ghost use mathlib.Core.Bool.{true};
 ghost use mathlib.Core.Path.{_≡_};
 ghost use Prim.Native.Nat.{_+_, _-_, _*_, _/_, _≤_, _<_};
 ghost use lib.ListN.{length};
 ghost use lib.IntN.{ℤ, pos, natAbs, _*ℤ_};
-ghost use Rattle.sequence.specs.Total.{total};
 ghost use Rattle.sequence.specs.Rewritten.{rewritten};
-ghost use Rattle.fixed.specs.Fixed as Fixed;
 ghost use Rattle.tables.specs.Places.{WORDS};
 ghost use Rattle.pitch.specs.Pitch as Pitch;
+ghost use Rattle.pitch.specs.Window as Window;
 use fixed::acc;
 use fixed::fold;
 use fixed::hi;
@@ -120,37 +120,111 @@ fn interp(words: &[i16]) -> &[i16]
     &words[start..end]
 }
 
-// The sum of ten products: the signal going back from a place, by every third tap from a first one on.
-fn before(taps: &[i16], tap: usize, signal: &[i16], centre: usize) -> i64
-    requires { ⌜ (length (now taps) ≡ 31) × (tap ≤ 3) × (9 ≤ centre) × (centre < length (now signal)) ⌝ }
-    ensures { λ r. ⌜ r ≡ total Fixed.fold (pos 0) (Pitch.before (now (taps .entry)) tap (now (signal .entry)) centre) 10 ⌝ }
+// The twenty taps of a phase in the signal's order, and four more that are 0.
+fn window(taps: &[i16], phase: usize) -> [i16; 24]
+    requires { ⌜ (length (now taps) ≡ 31) × (phase < 3) ⌝ }
+    ensures { λ r. ⌜ Window.Windowed (now (taps .entry)) phase r ⌝ }
+{
+    let mut out = [0i16; 24];
+    for k in 0..10 {
+        out[9 - k] = taps[phase + 3 * k];
+        out[10 + k] = taps[3 - phase + 3 * k];
+    }
+    out
+}
+
+// A tap's size.
+fn size(tap: i16) -> i32
+    ensures { λ r. ⌜ r ≡ pos (natAbs tap) ⌝ }
+{
+    let t = tap as i32;
+    if t < 0 { -t } else { t }
+}
+
+// Whether the sizes of count taps from first on add up to at most 65,535: then a sum of products by them is one of 32 bits, whatever the signal.
+fn small(taps: [i16; 24], first: usize, count: usize) -> bool
+    requires { ⌜ first + count ≤ 24 ⌝ }
+    ensures { λ r. ⌜ r ≡ Window.small taps first count ⌝ }
+{
+    let mut sum = 0i32;
+    for k in 0..count {
+        sum += size(taps[first + k]);
+    }
+    sum <= 65535
+}
+
+// Whether the first sixteen are so, and the last eight.
+fn narrow(taps: [i16; 24]) -> bool
+    ensures { λ r. ⌜ r ≡ Window.narrow taps ⌝ }
+{
+    if small(taps, 0, 16) {
+        return small(taps, 16, 8);
+    }
+    false
+}
+
+// The sum of the first sixteen products.
+fn sixteen(taps: &[i16], signal: &[i16], from: usize) -> i32
+    requires { ⌜ (length (now taps) ≡ 24) × (from + 24 ≤ length (now signal)) × (Window.small (now taps) 0 16 ≡ true) ⌝ }
+    ensures { λ r. ⌜ r ≡ Window.products (now (taps .entry)) (now (signal .entry)) from 0 16 ⌝ }
+{
+    let mut sum = 0i32;
+    for k in 0..16 {
+        sum += (signal[from + k] as i32) * (taps[k] as i32);
+    }
+    sum
+}
+
+// And of the last eight.
+fn eight(taps: &[i16], signal: &[i16], from: usize) -> i32
+    requires { ⌜ (length (now taps) ≡ 24) × (from + 24 ≤ length (now signal)) × (Window.small (now taps) 16 8 ≡ true) ⌝ }
+    ensures { λ r. ⌜ r ≡ Window.products (now (taps .entry)) (now (signal .entry)) from 16 8 ⌝ }
+{
+    let mut sum = 0i32;
+    for k in 16..24 {
+        sum += (signal[from + k] as i32) * (taps[k] as i32);
+    }
+    sum
+}
+
+// The sum of all, product by product.
+fn wide(taps: &[i16], signal: &[i16], from: usize) -> i64
+    requires { ⌜ (length (now taps) ≡ 24) × (from + 24 ≤ length (now signal)) ⌝ }
+    ensures { λ r. ⌜ r ≡ Window.sample (now (taps .entry)) (now (signal .entry)) from ⌝ }
 {
     let mut value = 0i64;
-    for k in 0..10 {
-        value = fold(value, mul(signal[centre - k], taps[tap + 3 * k]));
+    for k in 0..24 {
+        value = fold(value, mul(signal[from + k], taps[k]));
     }
     value
 }
 
-// And on top of it the ten of the signal behind that place.
-fn after(sum: i64, taps: &[i16], tap: usize, signal: &[i16], centre: usize) -> i64
-    requires { ⌜ (natAbs sum ≤ 549755813888) × (length (now taps) ≡ 31) × (tap ≤ 3) × (centre + 10 < length (now signal)) ⌝ }
-    ensures { λ r. ⌜ r ≡ total Fixed.fold sum (Pitch.after (now (taps .entry)) tap (now (signal .entry)) centre) 10 ⌝ }
+// One sample between those of a signal, by the two-sided filter. Sums of 32 bits are taken eight products at a time, so they are made where they fit.
+fn interpolated_sample(taps: &[i16], narrow: bool, signal: &[i16], from: usize) -> i64
+    requires { ⌜ (length (now taps) ≡ 24) × (narrow ≡ Window.narrow (now taps)) × (from + 24 ≤ length (now signal)) ⌝ }
+    ensures { λ r. ⌜ r ≡ Window.sample (now (taps .entry)) (now (signal .entry)) from ⌝ }
 {
-    let mut value = sum;
-    for k in 0..10 {
-        value = fold(value, mul(signal[centre + 1 + k], taps[tap + 3 * k]));
+    if narrow {
+        fold(
+            (sixteen(taps, signal, from) as i64) * 2,
+            (eight(taps, signal, from) as i64) * 2,
+        )
+    } else {
+        wide(taps, signal, from)
     }
-    value
 }
 
-// One sample between those of a signal, by the two-sided filter.
-fn interpolated_sample(taps: &[i16], phase: usize, signal: &[i16], centre: usize) -> i64
-    requires { ⌜ (length (now taps) ≡ 31) × (phase < 3) × (9 ≤ centre) × (centre + 10 < length (now signal)) ⌝ }
-    ensures { λ r. ⌜ r ≡ Pitch.interpolatedSample (now (taps .entry)) phase (now (signal .entry)) centre ⌝ }
+// The 80 samples, by a window of taps.
+fn predict_from(taps: &[i16], narrow: bool, exc: &mut [i16], at: usize, delay: usize)
+    requires { ⌜ (length (now taps) ≡ 24) × (narrow ≡ Window.narrow (now taps)) × (154 ≤ at) × (at + 80 ≤ length (now exc)) × (20 ≤ delay) × (delay ≤ 144) ⌝ }
+    ensures { λ _. ⌜ now (exc .exit) ≡ rewritten (Window.predicted (now (taps .entry)) delay at) at (now (exc .entry)) 80 ⌝ }
 {
-    let sum = before(taps, phase, signal, centre);
-    after(sum, taps, 3 - phase, signal, centre)
+    for n in 0..80 {
+        let place = at + n;
+        let value = interpolated_sample(taps, narrow, &exc[..], place - delay - 9);
+        let y = hi(sat(fold(value, 32768)));
+        exc[place] = y;
+    }
 }
 
 // The adaptive codebook's 80 samples from place at on.
@@ -158,15 +232,9 @@ pub fn predict(words: &[i16], exc: &mut [i16], at: usize, lag: Lag)
     requires { ⌜ (length (now words) ≡ WORDS) × (154 ≤ at) × (at + 80 ≤ length (now exc)) × Pitch.Sane lag ⌝ }
     ensures { λ _. ⌜ now (exc .exit) ≡ Pitch.predict (Pitch.interp (now (words .entry))) (now (exc .entry)) at lag ⌝ }
 {
-    let taps = interp(words);
-    let p = phase(lag);
-    let d = delay(lag);
-    for n in 0..80 {
-        let place = at + n;
-        let value = interpolated_sample(taps, p, &exc[..], place - d);
-        let y = hi(sat(fold(value, 32768)));
-        exc[place] = y;
-    }
+    let taps = window(interp(words), phase(lag));
+    let narrow = narrow(taps);
+    predict_from(&taps[..], narrow, exc, at, delay(lag));
 }
 
 // A sample of the innovation with its share of an earlier one.
@@ -178,14 +246,14 @@ fn mixed(value: i64, gain: i16, x: i16) -> i16
 }
 
 // The innovation behind its guard, from sample first on.
-fn sharpen_from(taps: &[i16], phase: usize, buf: &mut [i16], first: usize, gain: i16)
-    requires { ⌜ (length (now taps) ≡ 31) × (phase < 3) × (length (now buf) ≡ 101) × (10 ≤ first) × (first ≤ 80) ⌝ }
-    ensures { λ _. ⌜ now (buf .exit) ≡ rewritten (Pitch.sharpened (now (taps .entry)) phase first gain) (21 + first) (now (buf .entry)) (80 - first) ⌝ }
+fn sharpen_from(taps: &[i16], narrow: bool, buf: &mut [i16], first: usize, gain: i16)
+    requires { ⌜ (length (now taps) ≡ 24) × (narrow ≡ Window.narrow (now taps)) × (length (now buf) ≡ 101) × (10 ≤ first) × (first ≤ 80) ⌝ }
+    ensures { λ _. ⌜ now (buf .exit) ≡ rewritten (Window.sharpened (now (taps .entry)) first gain) (21 + first) (now (buf .entry)) (80 - first) ⌝ }
 {
     let count = 80 - first;
     for n in 0..count {
         let place = 21 + first + n;
-        let value = interpolated_sample(taps, phase, &buf[..], 11 + n);
+        let value = interpolated_sample(taps, narrow, &buf[..], 2 + n);
         let y = mixed(value, gain, buf[place]);
         buf[place] = y;
     }
@@ -225,6 +293,8 @@ pub fn sharpen(words: &[i16], code: &mut [i16], lag: Lag, gain: i16)
         return;
     }
     let mut buf = guarded(&code[..]);
-    sharpen_from(interp(words), phase(lag), &mut buf, first, gain);
+    let taps = window(interp(words), phase(lag));
+    let narrow = narrow(taps);
+    sharpen_from(&taps[..], narrow, &mut buf, first, gain);
     copy(&mut code[..], &buf[21..]);
 }

@@ -1,135 +1,81 @@
--- The excitation is, by turn n, rewritten in n places; each sample comes from at most 153 and at least 10 before it.
+-- The window holds the taps of the lag's phase, so what it predicts is the filter's; each sample comes from at most 153 and at least 10 before it.
 use borrow.Author.Needs.{needs}
 use native.Mathlib.Omega.{arith}
-use mathlib.Core.Path.{_≡_, refl, _∙_, ap}
-use Prim.Native.Nat.{_+_, _-_, _≤_, _<_}
-use lib.IntN.{ℤ, pos}
-use lib.ListN.{length, length-set}
-use mir.Syntax.{w16, w64}
-use mir.Val.{toZ, ofZ}
-use Rattle.sequence.specs.Rewritten.{rewritten, rewritten-again, rewritten-end}
-use Rattle.fixed.specs.Fixed as Fixed
-use Rattle.fixed.specs.Machine.{back}
+use mathlib.Core.Path.{_∙_, ap}
+use Prim.Native.Nat.{ℕ, _≤_}
+use lib.ListN.{length}
+use Rattle.sequence.specs.Rewritten.{rewritten}
 use Rattle.pitch.specs.Pitch as Pitch
+use Rattle.pitch.specs.Window as Window
 use Rattle.pitch.specs.Lags.{sane-phase, sane-delay}
 use Rattle.pitch.proofs.Taps.{length-interp}
+use Rattle.pitch.proofs.Filter.{windowed-of, predicted-is}
 use Rattle.pitch.proofs.predict.Statement.{statement}
 use Rattle.pitch.proofs.predict.Tie as tie
 
-abbrev Inv-loop : tie.InvT-loop
-Inv-loop words exc₀ at taps p d n₀ exc n =
-    (n ≤ 80) × (length exc ≡ length exc₀) × (exc ≡ rewritten (Pitch.predicted taps p d «at») «at» exc₀ n)
-
-abbrev μ-loop : tie.MeasureT-loop
-μ-loop words exc₀ at taps p d n₀ exc n = 80 - n
-
-interp-requires : tie.Need-interp-requires Inv-loop μ-loop
+interp-requires : tie.Need-interp-requires
 interp-requires c κs = search needs
 
-phase-requires : tie.Need-phase-requires Inv-loop μ-loop
+phase-requires : tie.Need-phase-requires
 phase-requires c κs = search needs
 
-delay-requires : tie.Need-delay-requires Inv-loop μ-loop
+window-requires : tie.Need-window-requires
+window-requires c κs =
+    let s = c .before .before in
+    (ap length (c .before .interp .ensures) ∙ length-interp (s .args .words .now) (s .pre .0), rw (c .phase .ensures) (sane-phase (s .args .lag) (s .pre .3)))
+
+narrow-requires : tie.Need-narrow-requires
+narrow-requires c κs = search needs
+
+slice-aggregate-predict-from : tie.Need-slice-aggregate-predict-from
+slice-aggregate-predict-from c = search needs
+
+delay-requires : tie.Need-delay-requires
 delay-requires c κs = search needs
 
-loop-holds : tie.Need-loop-holds Inv-loop μ-loop
-unfolding rewritten
-loop-holds c = (omega arith, refl, refl)
+-- what the calls before the last gave
+module _ (d : tie.After-delay) where
+  abbrev w : tie.After-window
+  w = d .before .before .before .before
 
--- what the three calls before the loop gave
-module _ (a : tie.After-delay Inv-loop μ-loop) where
-  abbrev s : tie.Start Inv-loop μ-loop
-  s = a .before .before .before
+  abbrev s : tie.Start
+  s = w .before .before .before
 
-  taps-length : length (a .before .before .interp .result .now) ≡ 31
-  taps-length = ap length (a .before .before .interp .ensures) ∙ length-interp (s .args .words .now) (s .pre .0)
+  windowed : Window.Windowed (Pitch.interp (s .args .words .now)) (Pitch.phase (s .args .lag)) (w .window .result)
+  windowed = windowed-of (w .before .before .interp .ensures) (w .before .phase .ensures) (w .window .ensures)
 
-  phase-lt : a .before .phase .result < 3
-  phase-lt = rw (a .before .phase .ensures) (sane-phase (s .args .lag) (s .pre .3))
+  delay-range : (20 ≤ d .delay .result) × (d .delay .result ≤ 144)
+  delay-range = rw (d .delay .ensures) (sane-delay (s .args .lag) (s .pre .3))
 
-  delay-range : (20 ≤ a .delay .result) × (a .delay .result ≤ 144)
-  delay-range = rw (a .delay .ensures) (sane-delay (s .args .lag) (s .pre .3))
+predict-from-requires : tie.Need-predict-from-requires
+predict-from-requires c κs =
+    let r = delay-range c in
+    (windowed c .size, c .before .before .before .narrow .ensures, s c .pre .1, s c .pre .2, r .0, r .1)
 
-add-place : tie.Need-add-place Inv-loop μ-loop
-add-place c = omega arith
-
-sub-interpolated-sample : tie.Need-sub-interpolated-sample Inv-loop μ-loop
-sub-interpolated-sample c = omega (arith, delay-range (c .before .before .before))
-
-interpolated-sample-requires : tie.Need-interpolated-sample-requires Inv-loop μ-loop
-interpolated-sample-requires c κs =
-    let a = c .before .before .before in
-    let r = delay-range a in
-    (taps-length a, phase-lt a, omega arith, omega arith)
-
-fold-requires : tie.Need-fold-requires Inv-loop μ-loop
-fold-requires c κs = search needs
-
-sat-requires : tie.Need-sat-requires Inv-loop μ-loop
-sat-requires c κs = search needs
-
-hi-requires : tie.Need-hi-requires Inv-loop μ-loop
-hi-requires c κs = search needs
-
-mul-y : tie.Need-mul-y Inv-loop μ-loop
-mul-y c = omega arith
-
-slice-set-from-y : tie.Need-slice-set-from-y Inv-loop μ-loop
-slice-set-from-y c = omega arith
-
-add-n : tie.Need-add-n Inv-loop μ-loop
-add-n c = omega arith
-
-loop-less : tie.Need-loop-less Inv-loop μ-loop
-loop-less c = omega arith
-
-loop-again : tie.Need-loop-again Inv-loop μ-loop
-unfolding Pitch.predicted
-loop-again c =
-    let l = c .before .before .before .before .before .before in
-    let a = l .before in
-    let i = c .before .before .before .interpolated-sample in
-    let f = c .before .before .fold in
-    let t = c .before .sat in
-    let y : ℤ = toZ w16 (ofZ w16 (c .hi .result)) in
-    let f-is : f .result ≡ Fixed.fold (i .result) (pos 32768) = simp (back w64 (i .result) (i .ok)) at (f .ensures) in
-    let t-is : t .result ≡ Fixed.sat (f .result) = simp (back w64 (f .result) (f .ok)) at (t .ensures) in
-    let h-is : c .hi .result ≡ Fixed.hi (t .result) = simp (back w64 (t .result) (t .ok)) at (c .hi .ensures) in
-    let e : y ≡ Pitch.predicted (a .before .before .interp .result .now) (a .before .phase .result) (a .delay .result) (s a .args .at) (l .loop .n) (l .loop .exc) =
-    back w16 (c .hi .result) (c .hi .ok) ∙ h-is ∙ ap (λ (z : ℤ). Fixed.hi z) (t-is ∙ ap (λ (z : ℤ). Fixed.sat z) (f-is ∙ ap (λ (z : ℤ). Fixed.fold z (pos 32768)) (i .ensures))) in
-    (omega arith, length-set (l .loop .exc) (s a .args .at + l .loop .n) y ∙ l .loop .inv .1, rewritten-again _ (s a .args .at) (s a .args .exc .now) (l .loop .n) (l .loop .exc) y (l .loop .inv .2) e)
-
-same-length : tie.Need-same-length Inv-loop μ-loop
+same-length : tie.Need-same-length
 same-length c = search needs
 
-returns : tie.Need-returns Inv-loop μ-loop
+returns : tie.Need-returns
 unfolding Pitch.predict
 returns c =
-    let l = c .before in
-    let a = l .before in
-    rewritten-end _ (s a .args .at) (s a .args .exc .now) (l .loop .inv .0) (omega arith) (l .loop .inv .2)
-    ∙ simp (a .before .before .interp .ensures, a .before .phase .ensures, a .delay .ensures)
+    let p = c .before in
+    let d = p .before in
+    let a = s d .args in
+    let taps = Pitch.interp (a .words .now) in
+    p .predict-from .ensures
+    ∙ predicted-is taps (w d .window .result) (Pitch.phase (a .lag)) (windowed d) (d .delay .result) (a .at) (a .exc .now) 80 (omega (arith, delay-range d, s d .pre .1))
+    ∙ ap (λ (n : ℕ). rewritten (Pitch.predicted taps (Pitch.phase (a .lag)) n (a .at)) (a .at) (a .exc .now) 80) (d .delay .ensures)
 
 pub predict-spec : {M : Type 1} → statement M
 predict-spec =
     tie.close
     (tie.spec
-    Inv-loop
-    μ-loop
     interp-requires
     phase-requires
+    window-requires
+    narrow-requires
+    slice-aggregate-predict-from
     delay-requires
-    loop-holds
-    add-place
-    sub-interpolated-sample
-    interpolated-sample-requires
-    fold-requires
-    sat-requires
-    hi-requires
-    mul-y
-    slice-set-from-y
-    add-n
-    loop-less
-    loop-again
+    predict-from-requires
     same-length
     returns)

@@ -1,4 +1,4 @@
--- The buffer is, by turn n, rewritten in n places. The last sample that a turn reads is 21 + n, which is before its own place, 21 + first + n.
+-- The buffer is, by turn n, rewritten in n places. The last sample that a turn reads with a tap that is not 0 is 21 + n, which is before its own place, 21 + first + n.
 use borrow.Author.Needs.{needs}
 use native.Mathlib.Omega.{arith}
 use mathlib.Core.Path.{_≡_, refl, _∙_, ap}
@@ -11,15 +11,16 @@ use mir.ValLaws.{toZ-ofZ}
 use Rattle.sequence.specs.Rewritten.{rewritten, rewritten-again, rewritten-end}
 use Rattle.fixed.specs.Machine.{back}
 use Rattle.pitch.specs.Pitch as Pitch
+use Rattle.pitch.specs.Window as Window
 use Rattle.pitch.proofs.sharpen_from.Statement.{statement}
 use Rattle.pitch.proofs.sharpen_from.Tie as tie
 
 abbrev Inv-loop : tie.InvT-loop
-Inv-loop taps phase buf₀ first gain count n₀ buf n =
-    (n ≤ count) × (length buf ≡ length buf₀) × (buf ≡ rewritten (Pitch.sharpened taps phase first (toZ w16 gain)) (21 + first) buf₀ n)
+Inv-loop taps narrow buf₀ first gain count n₀ buf n =
+    (n ≤ count) × (length buf ≡ length buf₀) × (buf ≡ rewritten (Window.sharpened taps first (toZ w16 gain)) (21 + first) buf₀ n)
 
 abbrev μ-loop : tie.MeasureT-loop
-μ-loop taps phase buf₀ first gain count n₀ buf n = count - n
+μ-loop taps narrow buf₀ first gain count n₀ buf n = count - n
 
 sub-count : tie.Need-sub-count Inv-loop μ-loop
 sub-count c = omega arith
@@ -62,14 +63,14 @@ loop-less : tie.Need-loop-less Inv-loop μ-loop
 loop-less c = omega arith
 
 loop-again : tie.Need-loop-again Inv-loop μ-loop
-unfolding Pitch.sharpened
+unfolding Window.sharpened
 loop-again c =
     let l = c .before .before .before .before .before in
     let s = l .before in
     let i = c .before .before .interpolated-sample in
     let place : ℕ = 21 + s .args .first + l .loop .n in
     let y : ℤ = toZ w16 (ofZ w16 (c .mixed .result)) in
-    let e : y ≡ Pitch.sharpened (s .args .taps .now) (s .args .phase) (s .args .first) (toZ w16 (ofZ w16 (s .args .gain))) (l .loop .n) (l .loop .buf) =
+    let e : y ≡ Window.sharpened (s .args .taps .now) (s .args .first) (toZ w16 (ofZ w16 (s .args .gain))) (l .loop .n) (l .loop .buf) =
     back w16 (c .mixed .result) (c .mixed .ok)
     ∙ simp (back w64 (i .result) (i .ok), back w16 (getD (l .loop .buf) place (pos 0)) (c .before .mixed-arg .given)) at (c .mixed .ensures)
     ∙ ap (λ (z : ℤ). Pitch.mixed z (toZ w16 (ofZ w16 (s .args .gain))) (getD (l .loop .buf) place (pos 0))) (i .ensures) in

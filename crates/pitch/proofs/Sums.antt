@@ -1,0 +1,61 @@
+-- Plain sums of integers, `total _+ℤ_ s f n`, and sums in the accumulator, which are the plain ones wrapped once.
+use native.Mathlib.Omega.{arith}
+use native.Mathlib.Nat.{add-zero, add-suc}
+use mathlib.Core.Path.{_≡_, refl, sym, ap, _∙_}
+use Prim.Native.Nat.{ℕ, zero, suc, _+_, _-_, _<_}
+use lib.IntN.{ℤ, pos, _+ℤ_, _*ℤ_, +ℤ-assoc, +ℤ-comm, +ℤ-idr}
+use Rattle.sequence.specs.Total.{total, total-same}
+use Rattle.fixed.specs.Fixed.{acc, fold}
+use Rattle.fixed.specs.Integers.{mul-add}
+use Rattle.fixed.specs.Wrap.{wrap-wrap, wrap-add}
+
+-- the total of m + n terms goes on from that of m
+pub total-split : {A B : Type 0} (step : A → B → A) (s : A) (f : ℕ → B) (m n : ℕ) → total step s f (m + n) ≡ total step (total step s f m) (λ (k : ℕ). f (m + k)) n
+unfolding total
+total-split step s f m zero = ap (total step s f) (add-zero m)
+total-split step s f m (suc n) = ap (total step s f) (add-suc m n) ∙ rw (total-split step s f m n)
+
+module _ (f : ℕ → ℤ) where
+  -- a term may come first or last
+  pub sum-from : (s x : ℤ) (n : ℕ) → total _+ℤ_ (s +ℤ x) f n ≡ total _+ℤ_ s f n +ℤ x
+  unfolding total
+  sum-from s x zero = refl
+  sum-from s x (suc n) =
+      let t : ℤ = total _+ℤ_ s f n in
+      ap (λ (z : ℤ). z +ℤ f n) (sum-from s x n) ∙ +ℤ-assoc t x (f n) ∙ ap (λ (z : ℤ). t +ℤ z) (+ℤ-comm x (f n)) ∙ sym (+ℤ-assoc t (f n) x)
+
+  -- a sum taken backwards is the sum
+  pub sum-backwards : (s : ℤ) (n : ℕ) → total _+ℤ_ s (λ (k : ℕ). f (n - suc k)) n ≡ total _+ℤ_ s f n
+  unfolding total
+  sum-backwards s zero = refl
+  sum-backwards s (suc n) =
+      let g : ℕ → ℤ = λ (k : ℕ). f (suc n - suc k) in
+      let e : suc n ≡ 1 + n = omega arith in
+      ap (total _+ℤ_ s g) e ∙ total-split _+ℤ_ s g 1 n
+      ∙ total-same _+ℤ_ (s +ℤ g 0) (λ (k : ℕ). g (1 + k)) (λ (k : ℕ). f (n - suc k)) n (λ k h. ap f (omega arith))
+      ∙ sum-backwards (s +ℤ g 0) n ∙ sum-from s (g 0) n ∙ ap (λ (k : ℕ). total _+ℤ_ s f n +ℤ f k) (omega arith)
+
+  -- twice the sum
+  pub sum-twice : (s : ℤ) (n : ℕ) → total _+ℤ_ (s *ℤ pos 2) (λ (k : ℕ). f k *ℤ pos 2) n ≡ total _+ℤ_ s f n *ℤ pos 2
+  unfolding total
+  sum-twice s zero = refl
+  sum-twice s (suc n) = ap (λ (z : ℤ). z +ℤ f n *ℤ pos 2) (sum-twice s n) ∙ sym (mul-add (total _+ℤ_ s f n) (f n) (pos 2))
+
+  -- terms that are 0
+  pub sum-zeros : (s : ℤ) (n : ℕ) → ((k : ℕ) → k < n → f k ≡ pos 0) → total _+ℤ_ s f n ≡ s
+  unfolding total
+  sum-zeros s zero h = refl
+  sum-zeros s (suc n) h = ap (λ (z : ℤ). total _+ℤ_ s f n +ℤ z) (h n (omega arith)) ∙ +ℤ-idr _ ∙ sum-zeros s n (λ k p. h k (omega arith))
+
+  -- a sum in the accumulator, from a start that differs from t by a wrap, wraps to what the plain sum from t does
+  pub sum-wraps : (s t : ℤ) (n : ℕ) → acc s ≡ acc t → acc (total fold s f n) ≡ acc (total _+ℤ_ t f n)
+  unfolding total fold
+  sum-wraps s t zero e = e
+  sum-wraps s t (suc n) e =
+      let u : ℤ = total fold s f n in
+      wrap-wrap 40 (u +ℤ f n) ∙ sym (wrap-add 40 u (f n)) ∙ ap (λ (z : ℤ). acc (z +ℤ f n)) (sum-wraps s t n e) ∙ wrap-add 40 (total _+ℤ_ t f n) (f n)
+
+  -- and where it has a term it is wrapped
+  pub sum-wrapped : (s t : ℤ) (n : ℕ) → acc s ≡ acc t → total fold s f (suc n) ≡ acc (total _+ℤ_ t f (suc n))
+  unfolding total fold
+  sum-wrapped s t n e = sym (wrap-wrap 40 (total fold s f n +ℤ f n)) ∙ sum-wraps s t (suc n) e

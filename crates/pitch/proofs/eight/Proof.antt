@@ -1,0 +1,98 @@
+-- The local holds the sum of the products from the sixteenth on, which the taps' sizes keep within 32 bits.
+use native.Mathlib.Omega.{arith}
+use mathlib.Core.Path.{_≡_, _∙_, ap}
+use Prim.Native.Nat.{_+_, _-_, _≤_}
+use lib.IntN.{pos}
+use lib.ListN.{getD}
+use Rattle.pitch.specs.Window as Window
+use Rattle.pitch.proofs.Filter.{Summed, summed-none, summed-back, widens32, turn-mul, turn-add, turn-more}
+use Rattle.pitch.proofs.eight.Statement.{statement}
+use Rattle.pitch.proofs.eight.Tie as tie
+
+abbrev Inv-loop : tie.InvT-loop
+Inv-loop taps signal from sum₀ k₀ sum k = (16 ≤ k) × (k ≤ 24) × Summed taps signal from 16 sum (k - 16)
+
+abbrev μ-loop : tie.MeasureT-loop
+μ-loop taps signal from sum₀ k₀ sum k = 24 - k
+
+loop-holds : tie.Need-loop-holds Inv-loop μ-loop
+loop-holds c = let a = c .args in (omega arith, omega arith, summed-none (a .taps .now) (a .signal .now) (a .from) 16)
+
+add-sum : tie.Need-add-sum Inv-loop μ-loop
+add-sum c = omega arith
+
+mul-sum : tie.Need-mul-sum Inv-loop μ-loop
+mul-sum c = omega arith
+
+shared-slice-copy-out-sum : tie.Need-shared-slice-copy-out-sum Inv-loop μ-loop
+shared-slice-copy-out-sum c = omega arith
+
+cast-sum : tie.Need-cast-sum Inv-loop μ-loop
+cast-sum c =
+    let l = c .before .before in
+    widens32 (getD (l .before .args .signal .now) (l .before .args .from + l .loop .k) (pos 0)) (c .sum .given)
+
+mul-sum-2 : tie.Need-mul-sum-2 Inv-loop μ-loop
+mul-sum-2 c = omega arith
+
+shared-slice-copy-out-sum-2 : tie.Need-shared-slice-copy-out-sum-2 Inv-loop μ-loop
+shared-slice-copy-out-sum-2 c = omega arith
+
+cast-sum-2 : tie.Need-cast-sum-2 Inv-loop μ-loop
+cast-sum-2 c =
+    let l = c .before .before .before in
+    widens32 (getD (l .before .args .taps .now) (l .loop .k) (pos 0)) (c .sum2 .given)
+
+mul-sum-3 : tie.Need-mul-sum-3 Inv-loop μ-loop
+mul-sum-3 c =
+    let l = c .before .before .before in
+    let a = l .before .args in
+    turn-mul (a .taps .now) (a .signal .now) (a .from) 16 8 (l .before .pre .2) (l .loop .sum) (l .loop .k - 16) (l .loop .k) (omega arith) (omega arith) (l .loop .inv .2) (c .before .sum .given) (c .sum2 .given)
+
+add-sum-2 : tie.Need-add-sum-2 Inv-loop μ-loop
+add-sum-2 c =
+    let l = c .before .before .before in
+    let a = l .before .args in
+    turn-add (a .taps .now) (a .signal .now) (a .from) 16 8 (l .before .pre .2) (l .loop .sum) (l .loop .k - 16) (l .loop .k) (omega arith) (omega arith) (l .loop .inv .2) (c .before .sum .given) (c .sum2 .given)
+
+add-k : tie.Need-add-k Inv-loop μ-loop
+add-k c = omega arith
+
+loop-less : tie.Need-loop-less Inv-loop μ-loop
+loop-less c = omega arith
+
+loop-again : tie.Need-loop-again Inv-loop μ-loop
+loop-again c =
+    let l = c .before .before .before in
+    let a = l .before .args in
+    let e : l .loop .k - 16 + 1 ≡ l .loop .k + 1 - 16 = omega arith in
+    (omega arith, omega arith, rw e at (turn-more (a .taps .now) (a .signal .now) (a .from) 16 8 (l .before .pre .2) (l .loop .sum) (l .loop .k - 16) (l .loop .k) (omega arith) (omega arith) (l .loop .inv .2) (c .before .sum .given) (c .sum2 .given)))
+
+returns : tie.Need-returns Inv-loop μ-loop
+returns c =
+    let l = c .before in
+    let a = l .before .args in
+    let e : (l .loop .k - 16) ≡ 8 = omega arith in
+    summed-back (a .taps .now) (a .signal .now) (a .from) 16 8 (l .before .pre .2) (l .loop .sum) (l .loop .k - 16) (omega arith) (l .loop .inv .2)
+    ∙ ap (Window.products (a .taps .now) (a .signal .now) (a .from) 16) e
+
+pub eight-spec : {M : Type 1} → statement M
+eight-spec =
+    tie.close
+    (tie.spec
+    Inv-loop
+    μ-loop
+    loop-holds
+    add-sum
+    mul-sum
+    shared-slice-copy-out-sum
+    cast-sum
+    mul-sum-2
+    shared-slice-copy-out-sum-2
+    cast-sum-2
+    mul-sum-3
+    add-sum-2
+    add-k
+    loop-less
+    loop-again
+    returns)
