@@ -1,2 +1,2 @@
 mod Sizes
-mod Mixed
+mod Paired

@@ -3,7 +3,7 @@ ghost use mathlib.Core.Path.{_≡_};
 ghost use Prim.Native.Nat.{ℕ, _<_, _≤_};
 ghost use lib.IntN.{pos};
 ghost use lib.Signed.{_≤ℤ_};
-ghost use lib.ListN.{length, getD};
+ghost use lib.ListN.{length, getD, set};
 ghost use Rattle.fixed.specs.Fixed as Fixed;
 ghost use Rattle.lsp.specs.Lsp as Lsp;
 use fixed::acc;
@@ -258,28 +258,40 @@ fn updated(kv: i16, inverse: i16, scale: i32, x: i16, y: i16) -> i16
     hi(shift(mul32x16(difference(kv, x, y), inverse), scale))
 }
 
-// Each number before top, by the one as far from the other end. Both are read from k, which the step leaves.
-fn update_all(k: [i16; 10], top: usize, kv: i16, inverse: i16, scale: i32) -> [i16; 10]
-    requires { ⌜ top < 10 ⌝ }
-    ensures { λ r. ⌜ r ≡ Lsp.updateAll top kv inverse scale k ⌝ }
+// Two numbers, each by the other as it was.
+fn update_pair(k: &mut [i16], n: usize, m: usize, kv: i16, inverse: i16, scale: i32)
+    requires { ⌜ (n < length (now k)) × (m < length (now k)) ⌝ }
+    ensures { λ _. ⌜ now (k .exit) ≡ set (set (now (k .entry)) n (Lsp.updated kv inverse scale (getD (now (k .entry)) n (pos 0)) (getD (now (k .entry)) m (pos 0)))) m (Lsp.updated kv inverse scale (getD (now (k .entry)) m (pos 0)) (getD (now (k .entry)) n (pos 0))) ⌝ }
 {
-    let mut out = k;
-    for n in 0..top {
-        out[n] = updated(kv, inverse, scale, k[n], k[top - 1 - n]);
+    let x = k[n];
+    let y = k[m];
+    let first = updated(kv, inverse, scale, x, y);
+    let second = updated(kv, inverse, scale, y, x);
+    k[n] = first;
+    k[m] = second;
+}
+
+// Each number before top, by the one as far from the other end: pair by pair, in place.
+fn update_all(k: &mut [i16], top: usize, kv: i16, inverse: i16, scale: i32)
+    requires { ⌜ (length (now k) ≡ 10) × (top < 10) ⌝ }
+    ensures { λ _. ⌜ now (k .exit) ≡ Lsp.updateAll top kv inverse scale (now (k .entry)) ⌝ }
+{
+    let pairs = (top + 1) / 2;
+    for n in 0..pairs {
+        update_pair(k, n, top - 1 - n, kv, inverse, scale);
     }
-    out
 }
 
 // A step: the coefficient at top is peeled off, and the numbers before it are divided by its residual.
 // The Rust reads the exponent as a signed 5-bit field, which it is already.
-fn step(k: [i16; 10], top: usize) -> [i16; 10]
-    requires { ⌜ top < 10 ⌝ }
-    ensures { λ r. ⌜ r ≡ Lsp.step top k ⌝ }
+fn step(k: &mut [i16], top: usize)
+    requires { ⌜ (length (now k) ≡ 10) × (top < 10) ⌝ }
+    ensures { λ _. ⌜ now (k .exit) ≡ Lsp.step top (now (k .entry)) ⌝ }
 {
     let kv = k[top];
     let r = normalised_reciprocal(residual(kv));
     let inverse = hi(shift(r.quotient, -1));
-    update_all(k, top, kv, inverse, r.shift)
+    update_all(k, top, kv, inverse, r.shift);
 }
 
 // The numbers after the first, which is 1.
@@ -299,8 +311,7 @@ pub fn reflection_coefficients(lpc: [i16; 11]) -> [i16; 10]
 {
     let mut k = tail(lpc);
     for n in 0..9 {
-        let next = step(k, 9 - n);
-        k = next;
+        step(&mut k[..], 9 - n);
     }
     k
 }

@@ -5,6 +5,7 @@ use mathlib.Core.List.{List}
 use mathlib.Core.Path.{_≡_, refl, _∙_, ap}
 use Prim.Native.Nat.{ℕ, _-_, _≤_}
 use lib.IntN.{ℤ}
+use lib.ListN.{length}
 use Rattle.sequence.specs.Repeated.{repeated, repeated-again, repeated-end}
 use Rattle.lsp.specs.Lsp as Lsp
 use Rattle.lsp.proofs.reflection_coefficients.Statement.{statement}
@@ -14,7 +15,7 @@ abbrev turn : ℕ → List ℤ → List ℤ
 turn n = Lsp.step (9 - n)
 
 abbrev Inv-loop : tie.InvT-loop
-Inv-loop k₀ n₀ k n = (n ≤ 9) × (k ≡ repeated turn n k₀)
+Inv-loop k₀ n₀ k n = (n ≤ 9) × (length k ≡ 10) × (k ≡ repeated turn n k₀)
 
 abbrev μ-loop : tie.MeasureT-loop
 μ-loop k₀ n₀ k n = 9 - n
@@ -24,7 +25,10 @@ tail-requires c κs = search needs
 
 loop-holds : tie.Need-loop-holds Inv-loop μ-loop
 unfolding repeated
-loop-holds c = (omega arith, refl)
+loop-holds c = (omega arith, search needs, refl)
+
+slice-aggregate-step : tie.Need-slice-aggregate-step Inv-loop μ-loop
+slice-aggregate-step c = search needs
 
 sub-step : tie.Need-sub-step Inv-loop μ-loop
 sub-step c = omega arith
@@ -40,14 +44,14 @@ loop-less c = omega arith
 
 loop-again : tie.Need-loop-again Inv-loop μ-loop
 loop-again c =
-    let l = c .before .before in
-    (omega arith, repeated-again turn (l .loop .n) _ (l .loop .inv .1) (c .step .ensures))
+    let l = c .before .before .before .before in
+    (omega arith, search needs, repeated-again turn (l .loop .n) _ (l .loop .inv .2) (c .before .step .ensures))
 
 returns : tie.Need-returns Inv-loop μ-loop
 unfolding Lsp.reflectionCoefficients
 returns c =
     let l = c .before in
-    repeated-end turn _ (l .loop .inv .0) (omega arith) (l .loop .inv .1) ∙ ap (repeated turn 9) (l .before .tail .ensures)
+    repeated-end turn _ (l .loop .inv .0) (omega arith) (l .loop .inv .2) ∙ ap (repeated turn 9) (l .before .tail .ensures)
 
 pub reflection-coefficients-spec : {M : Type 1} → statement M
 reflection-coefficients-spec =
@@ -57,6 +61,7 @@ reflection-coefficients-spec =
     μ-loop
     tail-requires
     loop-holds
+    slice-aggregate-step
     sub-step
     step-requires
     add-n

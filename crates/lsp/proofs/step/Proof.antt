@@ -17,8 +17,8 @@ use Rattle.lsp.proofs.step.Tie as tie
 mul-kv : tie.Need-mul-kv
 mul-kv c = search needs
 
-array-copy-out-kv : tie.Need-array-copy-out-kv
-array-copy-out-kv c = search needs
+slice-copy-out-kv : tie.Need-slice-copy-out-kv
+slice-copy-out-kv c = search needs
 
 residual-requires : tie.Need-residual-requires
 residual-requires c κs = search needs
@@ -44,7 +44,7 @@ module _ (c : tie.After-struct-told) where
   s = r .before .before
 
   abbrev kv : ℤ
-  kv = getD (s .args .t1) (s .args .top) (pos 0)
+  kv = getD (s .args .k .now) (s .args .top) (pos 0)
 
   abbrev got : Reciprocal
   got = c .before .normalised-reciprocal .result
@@ -75,22 +75,26 @@ inverse-is c =
     ∙ simp (back w64 (c .before .shift .result) (c .before .shift .ok)) at (c .hi .ensures)
     ∙ ap (λ (z : ℤ). Fixed.hi z) (simp (quotient-back b) at (c .before .shift .ensures) ∙ ap (λ (x : Reciprocal). Fixed.shift (x .quotient) (negsuc 0)) (got-is b))
 
+same-length : tie.Need-same-length
+same-length c = search needs
+
 returns : tie.Need-returns
 unfolding Lsp.step
 returns c =
-    let h = c .before .before in
+    let h = c .before .before .before .before in
     let b = h .before .before in
-    simp (kv-back b, inverse-is h, shift-is b) at (c .update-all .ensures)
+    simp (kv-back b, inverse-is h, shift-is b) at (c .before .update-all .ensures)
 
 pub step-spec : {M : Type 1} → statement M
 step-spec =
     tie.close
     (tie.spec
     mul-kv
-    array-copy-out-kv
+    slice-copy-out-kv
     residual-requires
     normalised-reciprocal-requires
     shift-requires
     hi-requires
     update-all-requires
+    same-length
     returns)

@@ -1,60 +1,53 @@
--- The loop replaces the numbers before top, and reads only k, which it does not change.
+-- Pair by pair from both ends inwards: what the loop reads is as it was.
 use borrow.Author.Needs.{needs}
 use native.Mathlib.Omega.{arith}
 use mathlib.Core.List.{List}
-use mathlib.Core.Path.{_≡_, _∙_}
-use Prim.Native.Nat.{ℕ, _-_, _≤_}
+use mathlib.Core.Path.{_≡_, refl}
+use Prim.Native.Nat.{ℕ, _-_, _+_, _/_, _≤_, _<_}
 use lib.IntN.{ℤ, pos}
-use lib.ListN.{getD}
+use lib.ListN.{getD, set}
 use mir.Syntax.{w16, w32}
 use mir.Val.{toZ}
 use mir.ValLaws.{toZ-ofZ}
-use Rattle.sequence.specs.Table.{table}
-use Rattle.fixed.specs.Machine.{back}
 use Rattle.lsp.specs.Lsp as Lsp
-use Rattle.lsp.proofs.Mixed.{mixed, mixed-none, mixed-more, mixed-end}
+use Rattle.lsp.proofs.Paired.{Paired, paired-none, paired-more, paired-end}
 use Rattle.lsp.proofs.update_all.Statement.{statement}
 use Rattle.lsp.proofs.update_all.Tie as tie
 
--- what the step puts at place n, by the bits of its scalars
-abbrev u : ℕ → ℕ → ℕ → ℕ → List ℤ → ℕ → ℤ
-u top kv inverse scale k n = Lsp.updated (toZ w16 kv) (toZ w16 inverse) (toZ w32 scale) (getD k n (pos 0)) (getD k (top - 1 - n) (pos 0))
+-- what the step puts at place n
+abbrev u : ℕ → ℤ → ℤ → ℤ → List ℤ → ℕ → ℤ
+u top kv inverse scale k n = Lsp.updated kv inverse scale (getD k n (pos 0)) (getD k (top - 1 - n) (pos 0))
+
+-- a turn, of numbers that stand as they did
+turn : (top : ℕ) (kv inverse scale : ℤ) (k l : List ℤ) (n : ℕ) → top < 10 → n < (top + 1) / 2 → Paired (u top kv inverse scale k) k top l n →
+    Paired (u top kv inverse scale k) k top (set (set l n (Lsp.updated kv inverse scale (getD l n (pos 0)) (getD l (top - 1 - n) (pos 0)))) (top - 1 - n) (Lsp.updated kv inverse scale (getD l (top - 1 - n) (pos 0)) (getD l n (pos 0)))) (n + 1)
+turn top kv inverse scale k l n t h p =
+    let m : ℕ = top - 1 - n in
+    let x : getD l n (pos 0) ≡ getD k n (pos 0) = p .kept n (omega arith) (omega arith) in
+    let y : getD l m (pos 0) ≡ getD k m (pos 0) = p .kept m (omega arith) (omega arith) in
+    let e : top - 1 - m ≡ n = omega arith in
+    paired-more (u top kv inverse scale k) k top l n _ _ t h p (rw (x, y)) (rw (x, y, e))
 
 abbrev Inv-loop : tie.InvT-loop
-Inv-loop top kv inverse scale k out₀ n₀ out n = (n ≤ top) × (out ≡ table (mixed (u top kv inverse scale k) k (pos 0) n) 10)
+Inv-loop k₀ top kv inverse scale pairs n₀ k n = (n ≤ pairs) × (pairs ≡ (top + 1) / 2) × Paired (u top (toZ w16 kv) (toZ w16 inverse) (toZ w32 scale) k₀) k₀ top k n
 
 abbrev μ-loop : tie.MeasureT-loop
-μ-loop top kv inverse scale k out₀ n₀ out n = top - n
+μ-loop k₀ top kv inverse scale pairs n₀ k n = pairs - n
+
+add-pairs : tie.Need-add-pairs Inv-loop μ-loop
+add-pairs c = omega arith
 
 loop-holds : tie.Need-loop-holds Inv-loop μ-loop
-loop-holds c = (omega arith, mixed-none _ _ (pos 0) 10 (search needs))
+loop-holds c = (omega arith, refl, paired-none _ (c .args .k .now) (c .args .top) (c .pre .0))
 
-mul-updated : tie.Need-mul-updated Inv-loop μ-loop
-mul-updated c = omega arith
+sub-update-pair : tie.Need-sub-update-pair Inv-loop μ-loop
+sub-update-pair c = omega arith
 
-array-copy-out-updated : tie.Need-array-copy-out-updated Inv-loop μ-loop
-array-copy-out-updated c = omega arith
+sub-update-pair-2 : tie.Need-sub-update-pair-2 Inv-loop μ-loop
+sub-update-pair-2 c = omega arith
 
-sub-updated : tie.Need-sub-updated Inv-loop μ-loop
-sub-updated c = omega arith
-
-sub-updated-2 : tie.Need-sub-updated-2 Inv-loop μ-loop
-sub-updated-2 c = omega arith
-
-mul-updated-2 : tie.Need-mul-updated-2 Inv-loop μ-loop
-mul-updated-2 c = omega arith
-
-array-copy-out-updated-2 : tie.Need-array-copy-out-updated-2 Inv-loop μ-loop
-array-copy-out-updated-2 c = omega arith
-
-updated-requires : tie.Need-updated-requires Inv-loop μ-loop
-updated-requires c κs = search needs
-
-mul-out : tie.Need-mul-out Inv-loop μ-loop
-mul-out c = omega arith
-
-array-set-from-out : tie.Need-array-set-from-out Inv-loop μ-loop
-array-set-from-out c = omega arith
+update-pair-requires : tie.Need-update-pair-requires Inv-loop μ-loop
+update-pair-requires c κs = let p = c .before .before .loop .inv .2 .sized in (omega (arith, p), omega (arith, p))
 
 add-n : tie.Need-add-n Inv-loop μ-loop
 add-n c = omega arith
@@ -64,23 +57,19 @@ loop-less c = omega arith
 
 loop-again : tie.Need-loop-again Inv-loop μ-loop
 loop-again c =
-    let a = c .before in
-    let l = a .before .before .before in
-    let k = l .before .args .t1 in
-    let n = l .loop .n in
-    let x = getD k n (pos 0) in
-    let y = getD k (l .before .args .top - 1 - n) (pos 0) in (
-      omega arith,
-      mixed-more _ k (pos 0) 10 n (l .loop .out) _ (omega arith) (l .loop .inv .1)
-          (back w16 (c .updated .result) (c .updated .ok) ∙ simp (back w16 x (a .before .updated-arg .given), back w16 y (a .updated-arg2 .given)) at (c .updated .ensures)),
-    )
+    let l = c .before .before .before .before in
+    let b = l .before in
+    (omega arith, refl, rw (c .before .update-pair .ensures) (turn (b .args .top) _ _ _ (b .args .k .now) (l .loop .k) (l .loop .n) (b .pre .1) (omega arith) (l .loop .inv .2)))
+
+same-length : tie.Need-same-length Inv-loop μ-loop
+same-length c = search needs
 
 returns : tie.Need-returns Inv-loop μ-loop
 unfolding Lsp.updateAll
 returns c =
     let l = c .before in
-    let s = l .before in
-    simp (toZ-ofZ w16 _ (s .fits .kv), toZ-ofZ w16 _ (s .fits .inverse), toZ-ofZ w32 _ (s .fits .scale)) at (mixed-end _ (s .args .t1) (pos 0) 10 (l .loop .n) (s .args .top) (l .loop .out) (l .loop .inv .0) (omega arith) (l .loop .inv .1))
+    let b = l .before in
+    simp (toZ-ofZ w16 _ (b .fits .kv), toZ-ofZ w16 _ (b .fits .inverse), toZ-ofZ w32 _ (b .fits .scale)) at (paired-end _ (b .args .k .now) (b .args .top) (l .loop .k) (l .loop .n) (omega arith) (l .loop .inv .2))
 
 pub update-all-spec : {M : Type 1} → statement M
 update-all-spec =
@@ -88,17 +77,13 @@ update-all-spec =
     (tie.spec
     Inv-loop
     μ-loop
+    add-pairs
     loop-holds
-    mul-updated
-    array-copy-out-updated
-    sub-updated
-    sub-updated-2
-    mul-updated-2
-    array-copy-out-updated-2
-    updated-requires
-    mul-out
-    array-set-from-out
+    sub-update-pair
+    sub-update-pair-2
+    update-pair-requires
     add-n
     loop-less
     loop-again
+    same-length
     returns)
