@@ -15,23 +15,22 @@ unfolding groups inverted bitAt readBit gather fieldsOf unpack
 zero-frame = refl
 
 -- 13: stage2_low 1 then 0, both absolute codes 0
-zero : FrameParams
+abbrev pub zero : FrameParams
 zero = fields (unpack (replicate 20 0))
 
-case-13 : (zero .first .«stage2_low» ≡ 1) × (zero .second .«stage2_low» ≡ 0) × (zero .first .«absolute_pitch» ≡ 0) × (zero .second .«absolute_pitch» ≡ 0)
-unfolding zero
+pub case-13 : (zero .first .«stage2_low» ≡ 1) × (zero .second .«stage2_low» ≡ 0) × (zero .first .«absolute_pitch» ≡ 0) × (zero .second .«absolute_pitch» ≡ 0)
 case-13 = rw zero-frame (refl, refl, refl, refl)
 
 -- last byte 3f is accepted, 40 and 80 are refused
-accepted-3f : (p : List ℕ) → length p ≡ 20 → getD p 19 0 ≡ 63 → unpack p ≡ Fields (fieldsOf p)
+pub accepted-3f : (p : List ℕ) → length p ≡ 20 → getD p 19 0 ≡ 63 → unpack p ≡ Fields (fieldsOf p)
 unfolding unpack
 accepted-3f p l e = simp (l, e)
 
-refused-40 : (p : List ℕ) → length p ≡ 20 → getD p 19 0 ≡ 64 → unpack p ≡ Refused 6
+pub refused-40 : (p : List ℕ) → length p ≡ 20 → getD p 19 0 ≡ 64 → unpack p ≡ Refused 6
 unfolding unpack
 refused-40 p l e = simp (l, e)
 
-refused-80 : (p : List ℕ) → length p ≡ 20 → getD p 19 0 ≡ 128 → unpack p ≡ Refused 6
+pub refused-80 : (p : List ℕ) → length p ≡ 20 → getD p 19 0 ≡ 128 → unpack p ≡ Refused 6
 unfolding unpack
 refused-80 p l e = simp (l, e)
 

@@ -13,7 +13,7 @@ use Rattle.tables.specs.Bare.{bareWords, fromLimit, fromBases, fromPulses, from
 use Rattle.codebook.specs.Codebook.{cut, classOf, classify, added, quotient, remainder, above, digit, decompose, sum, placeShape, silence, placePulse, placePulses, alternative, innovation, decode, slotsFit, placeFits, digitsFit}
 
 -- 15: of the bare set, index 0: ten pulses of 8192 at place 0, whose sum 81,920 wraps
-case-15 : decode bareWords 0 ≡ record { code = pos 16384 ∷ replicate 79 (pos 0); class = 5 }
+pub case-15 : decode bareWords 0 ≡ record { code = pos 16384 ∷ replicate 79 (pos 0); class = 5 }
 unfolding decode innovation alternative placePulses placePulse sum repeated classify classOf cut firstFrom wrap signed residue bareWords fromLimit fromBases fromPulses fromSelectors fromEntries
 case-15 = refl
 

@@ -6,7 +6,7 @@ use lib.Count.{leadingZeros}
 use Rattle.fixed.specs.Fixed.{residue, signed, wrap, clamp, acc, fold, sat, trunc32, hi, mul32x16, shift, exp, restoringStep, restoringDivide, sizeReciprocal, normalisedReciprocal}
 
 -- 9: the accumulator wraps, at the top and below the bottom
-case-9 : acc (pos (2 ^ 39)) ≡ negsuc (2 ^ 39 - 1)
+pub case-9 : acc (pos (2 ^ 39)) ≡ negsuc (2 ^ 39 - 1)
 unfolding wrap signed residue
 case-9 = refl
 
@@ -19,7 +19,7 @@ unfolding fold wrap signed residue
 fold-top = refl
 
 -- 10: the redundant sign bits
-case-10 : exp (pos 64) ≡ pos 24
+pub case-10 : exp (pos 64) ≡ pos 24
 unfolding exp wrap signed residue leadingZeros
 case-10 = refl
 
@@ -37,11 +37,11 @@ unfolding exp wrap signed residue leadingZeros
 exp-wide = refl
 
 -- 14: the reciprocal of zero, in whose steps the accumulator wraps
-case-14 : hi (normalisedReciprocal (pos 0) .quotient) ≡ pos 32736
+pub case-14 : hi (normalisedReciprocal (pos 0) .quotient) ≡ pos 32736
 unfolding normalisedReciprocal sizeReciprocal restoringDivide restoringStep clamp fold shift exp wrap signed residue leadingZeros
 case-14 = refl
 
-case-14-shift : normalisedReciprocal (pos 0) .shift ≡ pos 1
+pub case-14-shift : normalisedReciprocal (pos 0) .shift ≡ pos 1
 unfolding normalisedReciprocal exp wrap signed residue leadingZeros
 case-14-shift = refl
 

@@ -1,14 +1,19 @@
 -- Marked case 11, and what `quantise` makes of the ends.
 use mathlib.Core.Path.{_≡_, refl}
 use mathlib.Core.Bool.{true, false}
-use lib.IntN.{pos}
+use lib.IntN.{pos, negsuc}
 use lib.Ieee.{nan, inf, fin, binary32, ofBits}
 use Rattle.floats.specs.Floats.{nearestEven, quantise}
 
--- 2.5 rounds to 2, 3.5 to 4
-case-11 : (nearestEven (ofBits binary32 0x4020_0000) ≡ 2) × (nearestEven (ofBits binary32 0x4060_0000) ≡ 4)
-unfolding nearestEven ofBits
+-- 11: 2.5, which is 5 halves, rounds to 2, and 3.5 to 4
+pub case-11 : (nearestEven (fin false 5 (negsuc 0)) ≡ 2) × (nearestEven (fin false 7 (negsuc 0)) ≡ 4)
+unfolding nearestEven
 case-11 = (refl, refl)
+
+-- both are f32 numbers
+halves : (ofBits binary32 0x4020_0000 ≡ fin false 5 (negsuc 0)) × (ofBits binary32 0x4060_0000 ≡ fin false 7 (negsuc 0))
+unfolding ofBits
+halves = (refl, refl)
 
 -- 0.5 rounds to 0, the next float to 1; 25,681.5 and 25,682.5 to 25,682, and so does all above
 around : (quantise 25682 (ofBits binary32 0x3f00_0000) ≡ 0) × (quantise 25682 (ofBits binary32 0x3f00_0001) ≡ 1) × (quantise 25682 (ofBits binary32 0x46c8_a300) ≡ 25682) × (quantise 25682 (ofBits binary32 0x46c8_a500) ≡ 25682)

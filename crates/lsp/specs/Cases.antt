@@ -1,4 +1,4 @@
--- Document 01's marked case 12, and further values worked out from the Rust, computed.
+-- Document 01's marked case 12, what its case 14 begins with, and further values worked out from the Rust, computed.
 use mathlib.Core.Path.{_≡_, refl}
 use mathlib.Core.List.{[], _∷_}
 use lib.IntN.{pos, negsuc}
@@ -22,7 +22,7 @@ unfolding entry position
 entry-beyond = refl
 
 -- 12: rounded down
-case-12 : midway (negsuc 2) (negsuc 3) ≡ negsuc 3
+pub case-12 : midway (negsuc 2) (negsuc 3) ≡ negsuc 3
 unfolding midway
 case-12 = refl
 
@@ -34,6 +34,11 @@ lpc-lowest = refl
 lpc-lowest-2 : lspToLpc (pos 0 ∷ pos 0 ∷ negsuc 32767 ∷ pos 0 ∷ pos 0 ∷ pos 0 ∷ pos 0 ∷ pos 0 ∷ pos 0 ∷ pos 0 ∷ []) ≡ pos 4096 ∷ negsuc 4095 ∷ pos 16384 ∷ negsuc 16383 ∷ pos 24576 ∷ negsuc 24575 ∷ pos 16384 ∷ negsuc 16383 ∷ pos 4096 ∷ negsuc 4095 ∷ pos 0 ∷ []
 unfolding lspToLpc predictor front back halved plus minus lspPolynomial nextPolynomial firstPolynomial coefficient own product linear negated table repeated fold mul mulUs mul32x16 shift wrap signed residue
 lpc-lowest-2 = refl
+
+-- 14: k = 4096, which is 1, leaves a residual of 0
+pub residual-4096 : residual (pos 4096) ≡ pos 0
+unfolding residual fold mul shift wrap signed residue
+residual-4096 = refl
 
 -- a first residual of zero, and a negative one
 reflection-zero : reflectionCoefficients (pos 12458 ∷ pos 12 ∷ negsuc 2200 ∷ negsuc 64 ∷ negsuc 0 ∷ pos 119 ∷ negsuc 17 ∷ pos 5 ∷ negsuc 48 ∷ negsuc 13133 ∷ pos 4096 ∷ []) ≡ pos 646 ∷ pos 166 ∷ negsuc 122 ∷ pos 650 ∷ pos 773 ∷ negsuc 26974 ∷ negsuc 4380 ∷ negsuc 3530 ∷ negsuc 13133 ∷ pos 4096 ∷ []

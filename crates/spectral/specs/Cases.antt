@@ -1,23 +1,49 @@
 -- Marked cases 7 and 8, and the ceiling, which comes after the gaps.
-use mathlib.Core.Path.{_≡_, refl}
-use mathlib.Core.List.{[], _∷_, map}
+use mathlib.Core.Path.{_≡_, refl, ap, _∙_}
+use mathlib.Core.List.{List, [], _∷_, map}
 use Prim.Native.Nat.{ℕ}
 use lib.IntN.{pos}
 use lib.ListN.{replicate}
-use lib.Ieee.{binary32, ofBits, ofInt, toUnsigned, add, mul, lt, le}
+use lib.Ieee.{Float, binary32, ofBits, ofInt, toUnsigned, add, mul, lt, le}
 use Rattle.floats.specs.Floats.{bitsAt, quantise}
 use Rattle.sequence.specs.Table.{table}
 use Rattle.sequence.specs.Total.{total}
-use Rattle.spectral.specs.Spectral.{sort, spread, predict, quantiseLsf, CEILING}
+use Rattle.spectral.specs.Spectral.{sums, sort, spread, predict, quantiseLsf, CEILING}
 
--- 7: a zero prediction, here by coefficients that are all 0, gives 41, 362, up to 2930
-case-7 : quantiseLsf (predict (replicate 30 (ofInt binary32 (pos 80))) (replicate 10 (ofInt binary32 (pos 8))) (replicate 3908 0) 1) ≡ map pos (41 ∷ 362 ∷ 683 ∷ 1004 ∷ 1325 ∷ 1646 ∷ 1967 ∷ 2288 ∷ 2609 ∷ 2930 ∷ [])
-unfolding quantiseLsf predict table total quantise bitsAt ofInt ofBits add mul lt le
-case-7 = refl
+predict-sums : (history residual : List Float) (bytes : List ℕ) (mode : ℕ) → predict history residual bytes mode ≡ spread (sort lt (sums history residual bytes mode))
+unfolding predict
+predict-sums history residual bytes mode = refl
+
+-- 41, and each other 321 above the one before it
+abbrev LSFS : List ℕ
+LSFS = 41 ∷ 362 ∷ 683 ∷ 1004 ∷ 1325 ∷ 1646 ∷ 1967 ∷ 2288 ∷ 2609 ∷ 2930 ∷ []
+
+-- n as an f32 number
+abbrev float : ℕ → Float
+float n = ofInt binary32 (pos n)
+
+spread-zeros : spread (sort lt (replicate 10 (float 0))) ≡ map float LSFS
+unfolding spread sort table ofInt ofBits add lt le
+spread-zeros = refl
+
+quantised-as-they-are : quantiseLsf (map float LSFS) ≡ map pos LSFS
+unfolding quantiseLsf table total quantise ofInt
+quantised-as-they-are = refl
+
+-- 7: a zero prediction gives 41, 362, up to 2930, and they are quantised as they are
+pub case-7 : (history residual : List Float) (bytes : List ℕ) (mode : ℕ) → sums history residual bytes mode ≡ replicate 10 (float 0) → (predict history residual bytes mode ≡ map float LSFS) × (quantiseLsf (predict history residual bytes mode) ≡ map pos LSFS)
+case-7 history residual bytes mode e =
+    let p = predict-sums history residual bytes mode ∙ ap (λ (l : List Float). spread (sort lt l)) e ∙ spread-zeros in
+    (p, ap quantiseLsf p ∙ quantised-as-they-are)
+
+-- there is one: coefficients that are all 0
+pub zero-prediction : sums (replicate 30 (float 80)) (replicate 10 (float 8)) (replicate 3908 0) 1 ≡ replicate 10 (float 0)
+unfolding sums table bitsAt ofInt ofBits add mul
+zero-prediction = refl
 
 -- 8: all ten 25,682 all quantise to 25,682, as they are and spread
-case-8 : (quantiseLsf (replicate 10 CEILING) ≡ replicate 10 (pos 25682)) × (quantiseLsf (spread (replicate 10 CEILING)) ≡ replicate 10 (pos 25682))
-unfolding quantiseLsf spread table total quantise ofBits add le
+pub case-8 : (quantiseLsf (replicate 10 (float 25682)) ≡ replicate 10 (pos 25682)) × (quantiseLsf (spread (replicate 10 (float 25682))) ≡ replicate 10 (pos 25682))
+unfolding quantiseLsf spread table total quantise ofInt ofBits add le
 case-8 = (refl, refl)
 
 -- ten 25,682 spread: the last alone is brought back, below the nine that the gaps have raised

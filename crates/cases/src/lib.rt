@@ -1,0 +1,1 @@
+// No function: specs/ has document 01's marked cases.
