@@ -28,6 +28,7 @@ use pitch::Lag;
 use pitch::decode_absolute;
 use pitch::decode_relative;
 use postfilter::OutputFilter;
+use slices::copy;
 
 // What a half frame carries on: the parts of the state but for the spectrum's.
 pub struct Core {
@@ -161,18 +162,6 @@ fn innovation(
     let lag = params.lag;
     let g = sharpen_gains(lpc, lag, sharpen_fixed, last_half_lag);
     shaped(words, codebook::decode(words, params.code), lag, g)
-}
-
-fn copy(dst: &mut [i16], src: &[i16])
-    requires { ⌜ length (now dst) ≡ length (now src) ⌝ }
-    ensures { λ _. ⌜ now (dst .exit) ≡ now (src .entry) ⌝ }
-{
-    let mut i = 0;
-    while i < src.len() {
-        let x = src[i];
-        dst[i] = x;
-        i += 1;
-    }
 }
 
 fn part(exc: &[i16], start: usize) -> [i16; 80]

@@ -13,6 +13,7 @@ use bits::HalfParams;
 use core::Core;
 use core::Half;
 use core::SubframeTrace;
+use slices::copy;
 
 // What is reported of a subframe.
 pub struct Subframe {
@@ -156,24 +157,13 @@ fn reported(bytes: &[u8], t: SubframeTrace) -> Subframe
     }
 }
 
-fn copy(dst: &mut [i16], src: [i16; 80])
-    requires { ⌜ length (now dst) ≡ 80 ⌝ }
-    ensures { λ _. ⌜ now (dst .exit) ≡ src ⌝ }
-{
-    let mut i = 0;
-    while i < 80 {
-        dst[i] = src[i];
-        i += 1;
-    }
-}
-
 // Two subframes' samples, one after the other.
 fn put_pair(out: &mut [i16], a: [i16; 80], b: [i16; 80])
     requires { ⌜ length (now out) ≡ 160 ⌝ }
     ensures { λ _. ⌜ now (out .exit) ≡ a ++ b ⌝ }
 {
-    copy(&mut out[..80], a);
-    copy(&mut out[80..], b);
+    copy(&mut out[..80], &a[..]);
+    copy(&mut out[80..], &b[..]);
 }
 
 fn put_excitation(x: Half, y: Half, out: &mut [i16])

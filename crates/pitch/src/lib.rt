@@ -17,6 +17,7 @@ use fixed::mul32x16;
 use fixed::restoring_divide;
 use fixed::sat;
 use fixed::shift;
+use slices::copy;
 
 // A lag's whole samples, and the thirds of a sample that are left, -1, 0 or 1.
 pub struct Lag {
@@ -256,19 +257,6 @@ fn sharpen_from(taps: &[i16], narrow: bool, buf: &mut [i16], first: usize, gain:
         let value = interpolated_sample(taps, narrow, &buf[..], 2 + n);
         let y = mixed(value, gain, buf[place]);
         buf[place] = y;
-    }
-}
-
-// dst becomes src.
-fn copy(dst: &mut [i16], src: &[i16])
-    requires { ⌜ length (now dst) ≡ length (now src) ⌝ }
-    ensures { λ _. ⌜ now (dst .exit) ≡ now (src .entry) ⌝ }
-{
-    let mut i = 0;
-    while i < src.len() {
-        let x = src[i];
-        dst[i] = x;
-        i += 1;
     }
 }
 

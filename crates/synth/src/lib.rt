@@ -10,6 +10,7 @@ use fixed::hi;
 use fixed::mul;
 use fixed::sat;
 use fixed::shift;
+use slices::copy;
 
 // What all but the last of the ten outputs before a sample bring into its prediction: history[9] is the last.
 fn older(a: &[i16], history: &[i16]) -> i64
@@ -48,19 +49,6 @@ fn sample(a: &[i16], history: &[i16], x: i16) -> i16
 {
     let before = known(a, history, x);
     hi(sat(fold(before, last(a, history))))
-}
-
-// dst becomes src.
-fn copy(dst: &mut [i16], src: &[i16])
-    requires { ⌜ length (now dst) ≡ length (now src) ⌝ }
-    ensures { λ _. ⌜ now (dst .exit) ≡ now (src .entry) ⌝ }
-{
-    let mut i = 0;
-    while i < src.len() {
-        let x = src[i];
-        dst[i] = x;
-        i += 1;
-    }
 }
 
 // The filter over a block of at most 80 samples: mem is the ten outputs before it, and then the last ten.

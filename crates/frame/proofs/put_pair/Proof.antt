@@ -1,6 +1,7 @@
 -- The two parts, one after the other.
 use borrow.Author.Needs.{needs}
-use mathlib.Core.Path.{sym, ap, _∙_}
+use mathlib.Core.Path.{_≡_, sym, _∙_}
+use lib.ListN.{length}
 use Rattle.frame.proofs.Parts.{first-part, both-parts}
 use Rattle.frame.proofs.put_pair.Statement.{statement}
 use Rattle.frame.proofs.put_pair.Tie as tie
@@ -11,8 +12,14 @@ slice-relend-prefix-copy c = search needs
 slice-aggregate-copy : tie.Need-slice-aggregate-copy
 slice-aggregate-copy c = sym (first-part 80 (c .before .args .out .now) (c .before .pre))
 
+slice-aggregate-copy-2 : tie.Need-slice-aggregate-copy-2
+slice-aggregate-copy-2 c = search needs
+
 copy-requires : tie.Need-copy-requires
-copy-requires c κs = first-part 80 (c .before .args .out .now) (c .before .pre)
+copy-requires c κs =
+    let b = c .before .before in
+    let e : 80 ≡ length (b .args .t2) = search needs in
+    first-part 80 (b .args .out .now) (b .pre) ∙ e
 
 sub-copy : tie.Need-sub-copy
 sub-copy c = search needs
@@ -23,6 +30,9 @@ part-copy-start c = search needs
 part-copy-end : tie.Need-part-copy-end
 part-copy-end c = search needs
 
+slice-aggregate-copy-3 : tie.Need-slice-aggregate-copy-3
+slice-aggregate-copy-3 c = search needs
+
 copy-requires-2 : tie.Need-copy-requires-2
 copy-requires-2 c κs = search needs
 
@@ -31,9 +41,10 @@ same-length c = search needs
 
 returns : tie.Need-returns
 returns c =
-    let b = c .before .before .before .before .before .before in
-    both-parts 80 (b .args .out .now) (c .before .before .before .before .copy .last .0) (c .before .copy2 .last .0) (c .before .before .before .before .copy .kept .0 ∙ first-part 80 (b .args .out .now) (b .pre))
-    ∙ rw (c .before .before .before .before .copy .ensures, c .before .copy2 .ensures)
+    let first = c .before .before .before .before .before in
+    let b = first .before .before .before in
+    both-parts 80 (b .args .out .now) (first .copy .last .0) (c .before .copy2 .last .0) (first .copy .kept .0 ∙ first-part 80 (b .args .out .now) (b .pre))
+    ∙ rw (first .copy .ensures, c .before .copy2 .ensures)
 
 pub put-pair-spec : {M : Type 1} → statement M
 put-pair-spec =
@@ -41,10 +52,12 @@ put-pair-spec =
     (tie.spec
     slice-relend-prefix-copy
     slice-aggregate-copy
+    slice-aggregate-copy-2
     copy-requires
     sub-copy
     part-copy-start
     part-copy-end
+    slice-aggregate-copy-3
     copy-requires-2
     same-length
     returns)

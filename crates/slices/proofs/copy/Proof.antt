@@ -1,15 +1,15 @@
 -- Written from its front, dst is the table of what stands in src.
+use borrow.Author.Needs.{sfits-of}
 use native.Mathlib.Omega.{arith}
 use mathlib.Core.Path.{refl, _∙_}
 use mathlib.Core.List.{List}
 use lib.IntN.{ℤ, pos}
 use lib.ListN.{length, getD}
 use Prim.Native.Nat.{ℕ, _-_}
-use mir.Syntax.{w16}
+use mir.Facts.{toZ-ofZ}
 use Rattle.sequence.specs.Table.{Written, written-none, written-more, written-end, table-of}
-use Rattle.fixed.specs.Machine.{back}
-use Rattle.core.proofs.copy.Statement.{statement}
-use Rattle.core.proofs.copy.Tie as tie
+use Rattle.slices.proofs.copy.Statement.{statement}
+use Rattle.slices.proofs.copy.Tie as tie
 
 abbrev at : List ℤ → ℕ → ℤ
 at l k = getD l k (pos 0)
@@ -45,7 +45,7 @@ loop-again : tie.Need-loop-again Inv-loop μ-loop
 loop-again c =
     let l = c .before .before in
     let s = l .before .args .src .now in
-    written-more (at s) (length s) (l .loop .dst) (l .loop .i) _ (l .loop .inv) (omega arith) (back w16 (at s (l .loop .i)) (c .x .given))
+    written-more (at s) (length s) (l .loop .dst) (l .loop .i) _ (l .loop .inv) (omega arith) (toZ-ofZ (sfits-of (c .x .given)))
 
 same-length : tie.Need-same-length Inv-loop μ-loop
 same-length c = omega (arith, c .before .loop .inv .1, c .before .before .pre)
