@@ -9,7 +9,7 @@ use lib.IntN.{ℤ}
 use borrow.Author.Tests.{le-leb, lt-leb}
 use Rattle.sequence.specs.First.{first, firstFrom, first-more, first-found}
 use Rattle.tables.specs.Tables.{base}
-use Rattle.codebook.specs.Sound.{SoundWords}
+use Rattle.tables.specs.SoundWords.{SoundWords}
 use Rattle.codebook.specs.Codebook.{classOf}
 
 module _ (words : List ℤ) (index : ℕ) where

@@ -19,7 +19,7 @@ use Rattle.sequence.specs.Table.{getD-table}
 use Rattle.tables.specs.Places.{FCB-SHAPE-SEL}
 use Rattle.tables.specs.Tables.{unsignedWord, base, entry}
 use Rattle.codebook.specs.declared.Classified.{Classified}
-use Rattle.codebook.specs.Sound.{SoundWords, pulses-within}
+use Rattle.tables.specs.SoundWords.{SoundWords, pulses-within}
 use Rattle.codebook.specs.Codebook.{classOf, cut, classify, pulses, digit, decompose, placeShape, placeSlot, placePosition, placeShapes, placePulse, placeEntry, placePulses, alternative, silence, innovation, decode, slotFits, slotsFit, placeFits, digitsFit}
 
 -- ---- the class

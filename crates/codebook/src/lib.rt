@@ -4,7 +4,7 @@ ghost use mathlib.Core.Bool.{true};
 ghost use Prim.Native.Nat.{_+_, _-_, _≤_, _<_, min};
 ghost use lib.ListN.{length};
 ghost use lib.IntN.{natAbs};
-ghost use Rattle.codebook.specs.Sound.{SoundWords};
+ghost use Rattle.tables.specs.SoundWords.{SoundWords};
 ghost use Rattle.codebook.specs.Codebook as Codebook;
 use tables::FCB_ALT_A;
 use tables::FCB_ALT_B;

@@ -12,7 +12,7 @@ use Rattle.bits.specs.Widths.{InWidths}
 use Rattle.bits.specs.GainIndex.{gain-index-lt}
 use Rattle.pitch.specs.Pitch as Pitch
 use Rattle.pitch.specs.Lags.{absolute-sane, relative-sane}
-use Rattle.codebook.specs.Sound.{SoundWords, sound-words}
+use Rattle.tables.specs.SoundWords.{SoundWords, sound-words}
 use Rattle.codebook.specs.Codebook as Codebook
 use Rattle.core.specs.declared.SubframeParams.{SubframeParams}
 use Rattle.core.specs.Core.{splitParams}

@@ -6,7 +6,7 @@ ghost use lib.ListN.{length};
 ghost use Rattle.tables.specs.Places.{WORDS};
 ghost use Rattle.tables.specs.Sound.{Sound};
 ghost use Rattle.pitch.specs.Pitch as Pitch;
-ghost use Rattle.codebook.specs.Sound.{SoundWords};
+ghost use Rattle.tables.specs.SoundWords.{SoundWords};
 ghost use Rattle.codebook.specs.Codebook as Codebook;
 ghost use Rattle.bits.specs.Widths.{InWidths};
 ghost use Rattle.synth.specs.Synth as Synth;

@@ -11,5 +11,6 @@ pub mod Bounds
 pub mod Sums
 pub mod Shifts
 pub mod Products
+pub mod Halves
 pub mod Division
 pub mod Normal

@@ -36,12 +36,19 @@ wrap-sfits w k z t = record { sfits = omega (arith, mag-wrap k z, pow-mono (leb�
 pub back : (w : Width) (z : ℤ) → mag z < 2 ^ hbits w → toZ w (ofZ w z) ≡ z
 back w z p = toZ-ofZ w z (record { sfits = p })
 
--- of `x as i64` at a narrower x: the cast's need, and what is read of it after
+-- of a cast to v at an x that is no wider: the cast's need, and what is read of it after
+pub widens-to : (v : Width) {w : Width} {z : ℤ} → T (leb (hbits w) (hbits v)) → SFits w z → SFits v (toZ w (ofZ w z))
+widens-to v {w} {z} t f = rw (toZ-ofZ w z f) (sfits-widen t f)
+
+pub widened-to : (v : Width) {w : Width} {z : ℤ} → T (leb (hbits w) (hbits v)) → SFits w z → toZ v (ofZ v (toZ w (ofZ w z))) ≡ z
+widened-to v {w} {z} t f = rw (toZ-ofZ w z f) (toZ-ofZ v z (sfits-widen t f))
+
+-- `x as i64`
 pub widens : {w : Width} {z : ℤ} → T (leb (hbits w) 63) → SFits w z → SFits w64 (toZ w (ofZ w z))
-widens {w} {z} t f = rw (toZ-ofZ w z f) (sfits-widen t f)
+widens t f = widens-to w64 t f
 
 pub widened : {w : Width} {z : ℤ} → T (leb (hbits w) 63) → SFits w z → toZ w64 (ofZ w64 (toZ w (ofZ w z))) ≡ z
-widened {w} {z} t f = rw (toZ-ofZ w z f) (toZ-ofZ w64 z (sfits-widen t f))
+widened t f = widened-to w64 t f
 
 -- `z as u64` or `z as usize` of a z that was tested not to be negative
 pub unsigned : (w : Width) (z : ℤ) → T (leb (hbits w) 63) → SFits w z → ltZ z (pos 0) ≡ false → T (nonNeg (toZ w (ofZ w z))) × Fits w64 (natAbs (toZ w (ofZ w z)))

@@ -47,7 +47,7 @@ up-add A B (pos a) (negsuc b) p q = up-subℕ A B a (suc b) p q
 up-add A B (negsuc a) (pos b) p q = ap (λ (x : ℕ). up x (subℕ b (suc a))) (add-comm A B) ∙ up-subℕ B A b (suc a) q p ∙ add-comm (b + B) (A - suc a)
 up-add A B (negsuc a) (negsuc b) p q = omega arith
 
-enough : (M n : ℕ) → 0 < M → n ≤ n * M
+pub enough : (M n : ℕ) → 0 < M → n ≤ n * M
 enough M n p = le-trans (le-of-eq (sym (mul-one n))) (mul-le-mul-left n p)
 
 pub residue-add : (M : ℕ) (a b : ℤ) → 0 < M → residue M (a +ℤ b) ≡ (residue M a + residue M b) % M

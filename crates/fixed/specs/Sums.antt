@@ -3,12 +3,11 @@ use native.Mathlib.Omega.{arith}
 use mathlib.Core.Path.{_≡_, refl, ap, sym, _∙_}
 use Prim.Native.Nat.{ℕ, zero, suc, _≤_, _<_, _+_, _*_}
 use native.Mathlib.Nat.{suc-mul}
-use native.Mathlib.Numerals.{add-one}
 use lib.IntN.{ℤ, natAbs, _+ℤ_}
 use mir.Syntax.{w64}
 use mir.Val.{toZ, ofZ}
 use mir.ValLaws.{toZ-ofZ}
-use Rattle.sequence.specs.Total.{total, total-again, total-keeps}
+use Rattle.sequence.specs.Total.{total, total-again, total-same, total-split, total-first, total-keeps}
 use Rattle.fixed.specs.Fixed.{acc, fold}
 use Rattle.fixed.specs.Abs.{abs-add}
 use Rattle.fixed.specs.Integers.{add-swap}
@@ -33,11 +32,11 @@ fold-swap s t u = wrap-add 40 (s +ℤ t) u ∙ ap acc (add-swap s t u) ∙ sym (
 -- the first of them last
 pub sum-first : (s : ℤ) (f : ℕ → ℤ) (n : ℕ) → total fold s f (suc n) ≡ fold (total fold s (λ (k : ℕ). f (k + 1)) n) (f 0)
 unfolding total
-sum-first s f zero = refl
-sum-first s f (suc n) =
-    ap (λ (x : ℤ). fold x (f (suc n))) (sum-first s f n)
-    ∙ fold-swap (total fold s (λ (k : ℕ). f (k + 1)) n) (f 0) (f (suc n))
-    ∙ ap (λ (m : ℕ). fold (fold (total fold s (λ (k : ℕ). f (k + 1)) n) (f m)) (f 0)) (sym (add-one n))
+sum-first s f n =
+    let e : suc n ≡ 1 + n = omega arith in
+    ap (total fold s f) e ∙ total-split fold s f 1 n
+    ∙ total-same fold (fold s (f 0)) (λ (k : ℕ). f (1 + k)) (λ (k : ℕ). f (k + 1)) n (λ k h. ap f (omega arith))
+    ∙ total-first fold fold-swap s (f 0) (λ (k : ℕ). f (k + 1)) n
 
 -- where the sum fits it is the sum
 pub fold-fits : (s t : ℤ) → natAbs s + natAbs t < 549755813888 → fold s t ≡ s +ℤ t

@@ -3,14 +3,14 @@ use native.Mathlib.Omega.{arith}
 use mathlib.Core.Bool.{Bool, true, false, cond}
 use mathlib.Core.Path.{_≡_, refl, ap, sym, _∙_}
 use Prim.Native.Nat.{ℕ, suc, _+_, _-_, _*_, _%_, _^_, _≤_, _<_}
-use native.Mathlib.Nat.{mod-lt, mod-eq-of-lt, pow-suc}
+use native.Mathlib.Nat.{mod-lt, mod-eq-of-lt, pow-suc, mul-assoc}
 use lib.Dec.{ltb}
-use lib.Pow.{pow-pos}
+use lib.Pow.{pow-pos, pow-add, mod-mod-pow}
 use lib.IntN.{ℤ, pos, negsuc, negℤ, natAbs, _+ℤ_, _-ℤ_, _*ℤ_, +ℤ-comm}
 use lib.Signed.{mag}
 use borrow.Author.Tests.{lt-ltb, le-ltb, ltb-true, ltb-false}
 use Rattle.fixed.specs.Fixed.{residue, signed, wrap, acc}
-use Rattle.fixed.specs.Residue.{residue-add, residue-mul}
+use Rattle.fixed.specs.Residue.{up, enough, residue-up, residue-add, residue-mul}
 use Rattle.fixed.specs.Abs.{mag≤abs}
 
 pub residue-lt : (M : ℕ) (z : ℤ) → 0 < M → residue M z < M
@@ -53,6 +53,22 @@ wrap-mul k m a =
 
 pub wrap-add-right : (k : ℕ) (a b : ℤ) → wrap k (a +ℤ wrap k b) ≡ wrap k (a +ℤ b)
 wrap-add-right k a b = ap (wrap k) (+ℤ-comm a (wrap k b)) ∙ wrap-add k b a ∙ ap (wrap k) (+ℤ-comm b a)
+
+-- a wrap to more bits is not seen by one to fewer
+residue-residue : (s k : ℕ) (z : ℤ) → residue (2 ^ (s + k)) z % 2 ^ k ≡ residue (2 ^ k) z
+residue-residue s k z =
+    let n : ℕ = natAbs z in
+    let h : n ≤ n * 2 ^ (s + k) = enough (2 ^ (s + k)) n (pow-pos (s + k)) in
+    let e : n * 2 ^ (s + k) ≡ n * 2 ^ s * 2 ^ k = ap (λ (x : ℕ). n * x) (pow-add 2 s k) ∙ sym (mul-assoc n (2 ^ s) (2 ^ k)) in
+    ap (λ (x : ℕ). x % 2 ^ k) (residue-up (2 ^ (s + k)) n z (pow-pos (s + k)) h)
+    ∙ mod-mod-pow (up (n * 2 ^ (s + k)) z) s k
+    ∙ ap (λ (x : ℕ). up x z % 2 ^ k) e
+    ∙ sym (residue-up (2 ^ k) (n * 2 ^ s) z (pow-pos k) (rw e at h))
+
+pub wrap-narrow : (s k : ℕ) (z : ℤ) → wrap k (wrap (s + k) z) ≡ wrap k z
+wrap-narrow s k z =
+    wrap-cong k (wrap (s + k) z) z
+    (sym (residue-residue s k (wrap (s + k) z)) ∙ ap (λ (x : ℕ). x % 2 ^ k) (residue-wrap (s + k) z) ∙ residue-residue s k z)
 
 -- ---- the range of what is wrapped
 signed-range : (M r : ℕ) → r < M → mag (signed M r) + mag (signed M r) < M

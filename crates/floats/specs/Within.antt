@@ -4,12 +4,12 @@ use mathlib.Core.Logic.{_⊎_, inl, inr}
 use Prim.Native.Nat.{ℕ, zero, suc, _+_, _-_, _*_, _^_, _≤_, _<_}
 use native.Mathlib.Nat.{le-trans, le-of-eq, le-of-lt, zero-lt-suc, mul-one, mul-comm, mul-assoc, mul-left-comm, mul-right-comm, mul-le-mul-right, mul-le-mul, le-of-mul-le-mul-right, mul-pos, mul-mul-mul-comm, add-mul}
 use native.Mathlib.Omega.{arith}
-use mathlib.Core.Bool.{Bool, Bool·beq, true, false, _&&_, cond, true≢false, _||_}
+use mathlib.Core.Bool.{Bool, Bool·beq, true, false, not, _&&_, cond, true≢false, _||_}
 use lib.IntN.{ℤ, pos, negsuc}
 use lib.Signed.{mag}
 use lib.Dec.{T, ltb, eqb, ltb→lt, eqb→eq, leb→le, le→leb, lit≤}
 use lib.Ieee as Ieee
-use lib.Ieee.{unlike, Float, nan, inf, fin, Format, binary32, up, down, odd, units, round, sum, add, mul, div, le, ofInt}
+use lib.Ieee.{unlike, Float, nan, inf, fin, isNan, Format, binary32, up, down, odd, units, round, sum, add, mul, div, le, ofInt}
 use lib.Ieee.Fits.{down-pos, and-l, round-is}
 use lib.Ieee.Exact.{HasValue}
 use lib.Ieee.Order.{round-mono}
@@ -17,6 +17,7 @@ use lib.Ieee.Positive.{first-pos}
 use lib.Ieee.Back.{round-whole}
 use lib.Ieee.Scale.{finite}
 use Rattle.floats.specs.Floats.{within}
+use Rattle.floats.specs.NoNan.{finite-no-nan}
 use Rattle.floats.specs.Value.{scaled-val}
 
 -- ---- bounds: x is finite and at most B in size
@@ -42,6 +43,13 @@ pub within-finite : (B : ℕ) (x : Float) → Within B x → T (finite x)
 within-finite B nan p = absurd p
 within-finite B (inf s) p = absurd p
 within-finite B (fin s m e) p = tt
+
+-- so what passes the test is finite, and no NaN
+pub within-is-finite : (B : ℕ) (x : Float) → T (within B x) → T (finite x)
+within-is-finite B x h = within-finite B x (within→ B x h)
+
+pub within-is-number : (B : ℕ) (x : Float) → T (within B x) → T (not (isNan x))
+within-is-number B x h = finite-no-nan x (within-is-finite B x h)
 
 under-val : (y : Float) (B m : ℕ) (e : ℤ) → HasValue y false B 1 → T (le (fin false m e) y) → m * up e ≤ B * down e
 unfolding le

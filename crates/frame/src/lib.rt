@@ -6,7 +6,7 @@ ghost use Prim.Native.Nat.{_<_, _≤_};
 ghost use lib.ListN.{length};
 ghost use Rattle.tables.specs.Sound.{Sound};
 ghost use Rattle.bits.specs.Widths.{InWidths};
-ghost use Rattle.codebook.specs.Sound.{SoundWords};
+ghost use Rattle.tables.specs.SoundWords.{SoundWords};
 ghost use Rattle.frame.specs.Frame as Frame;
 use bits::FrameParams;
 use bits::HalfParams;

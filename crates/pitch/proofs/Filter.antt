@@ -6,27 +6,19 @@ use mathlib.Core.List.{List}
 use Prim.Native.Nat.{ℕ, zero, suc, _+_, _-_, _*_, _≤_, _<_}
 use borrow.Author.Tests.{leb-true}
 use lib.IntN.{ℤ, pos, natAbs, _+ℤ_, _*ℤ_, +ℤ-idl, +ℤ-comm, *ℤ-zero}
-use lib.ListN.{getD, set}
+use lib.ListN.{getD}
 use lib.Signed.{mag}
-use mir.Facts.{sfits-widen}
 use mir.Syntax.{w16, w32}
 use mir.Val.{SFits, toZ, ofZ}
 use mir.ValLaws.{toZ-ofZ}
-use Rattle.sequence.specs.Rewritten.{rewritten}
-use Rattle.sequence.specs.Total.{total, total-same, total-more}
+use Rattle.sequence.specs.Rewritten.{rewritten, rewritten-same}
+use Rattle.sequence.specs.Total.{total, total-same, total-more, total-split}
 use Rattle.fixed.specs.Fixed.{acc, fold, sat, hi, mul}
 use Rattle.fixed.specs.Abs.{abs-add, abs-mul-le}
-use Rattle.fixed.specs.Machine.{back, sfits-abs, abs-sfits}
+use Rattle.fixed.specs.Machine.{sfits-abs, abs-sfits, widened-to}
 use Rattle.pitch.specs.Pitch as Pitch
 use Rattle.pitch.specs.Window.{Windowed, sizes, MOST, small, product, products, term, sample, predicted, sharpened}
-use Rattle.pitch.proofs.Sums.{total-split, sum-from, sum-backwards, sum-twice, sum-zeros, sum-wraps, sum-wrapped}
-
--- a 16-bit number that is cast to 32: the cast's need, and what is read of it after
-pub widens32 : (z : ℤ) → mag z < 32768 → SFits w32 (toZ w16 (ofZ w16 z))
-widens32 z p = rw (back w16 z p) (sfits-widen {w = w16} tt (record { sfits = p }))
-
-pub widened32 : (z : ℤ) → mag z < 32768 → toZ w32 (ofZ w32 (toZ w16 (ofZ w16 z))) ≡ z
-widened32 z p = rw (back w16 z p) (toZ-ofZ w32 z (sfits-widen {w = w16} tt (record { sfits = p })))
+use Rattle.pitch.proofs.Sums.{sum-from, sum-backwards, sum-twice, sum-zeros, sum-wraps, sum-wrapped}
 
 -- ---- the window's sum is the filter's
 -- a window of taps and a phase that are known by equations
@@ -80,12 +72,6 @@ module _ (taps w signal : List ℤ) (phase from : ℕ) (d : Windowed taps phase 
       ∙ sym (sum-wrapped a (total fold (pos 0) b 10) (total _+ℤ_ (pos 0) b 10) 9 (sum-wraps b (pos 0) (pos 0) 10 refl))
 
 -- ---- so what is rewritten by a window is rewritten by the filter
-rewritten-same : {A : Type 0} (f g : ℕ → List A → A) (start : ℕ) (l : List A) (n : ℕ) → ((k : ℕ) (x : List A) → f k x ≡ g k x) → rewritten f start l n ≡ rewritten g start l n
-unfolding rewritten
-rewritten-same f g start l zero h = refl
-rewritten-same {A} f g start l (suc n) h =
-    ap (λ (x : List A). set x (start + n) (f n x)) (rewritten-same f g start l n h) ∙ ap (λ (y : A). set (rewritten g start l n) (start + n) y) (h n (rewritten g start l n))
-
 module _ (taps w : List ℤ) (phase : ℕ) (d : Windowed taps phase w) where
   pub predicted-is : (delay start : ℕ) (exc : List ℤ) (n : ℕ) → delay + 9 ≤ start → rewritten (predicted w delay start) start exc n ≡ rewritten (Pitch.predicted taps phase delay start) start exc n
   unfolding predicted Pitch.predicted
@@ -160,18 +146,24 @@ module _ (w signal : List ℤ) (from first : ℕ) where
       abbrev y : ℤ
       y = getD w j (pos 0)
 
+      x-fits : SFits w16 x
+      x-fits = record { sfits = p }
+
+      y-fits : SFits w16 y
+      y-fits = record { sfits = q }
+
       le-more : natAbs (products w signal from first (n + 1)) ≤ 32768 * sizes w first (n + 1)
       unfolding product products
       le-more =
           let z : ℤ = products w signal from first n in
           let m : products w signal from first (n + 1) ≡ z +ℤ x *ℤ y =
           total-more _+ℤ_ (pos 0) (λ (k : ℕ). product w signal from (first + k)) n ∙ ap (λ (k : ℕ). z +ℤ product w signal from k) (sym e) in
-          let r : natAbs (x *ℤ y) ≤ 32768 * natAbs y = abs-mul-le x y 32768 (natAbs y) (abs-sfits w16 x (record { sfits = p })) (omega arith) in
+          let r : natAbs (x *ℤ y) ≤ 32768 * natAbs y = abs-mul-le x y 32768 (natAbs y) (abs-sfits w16 x x-fits) (omega arith) in
           let d : sizes w first (n + 1) ≡ sizes w first n + natAbs y = sizes-more w first n ∙ ap (λ (k : ℕ). sizes w first n + natAbs (getD w k (pos 0))) (sym e) in
           rw (m, d) (omega (arith, i .le, abs-add z (x *ℤ y)))
 
       product-fits : SFits w32 (x *ℤ y)
-      product-fits = sfits-abs w32 _ (omega (arith, abs-mul-le x y 32768 32768 (abs-sfits w16 x (record { sfits = p })) (abs-sfits w16 y (record { sfits = q }))))
+      product-fits = sfits-abs w32 _ (omega (arith, abs-mul-le x y 32768 32768 (abs-sfits w16 x x-fits) (abs-sfits w16 y y-fits)))
 
       more : toZ w32 v +ℤ x *ℤ y ≡ products w signal from first (n + 1)
       unfolding product products
@@ -180,10 +172,10 @@ module _ (w signal : List ℤ) (from first : ℕ) where
           ∙ sym (total-more _+ℤ_ (pos 0) (λ (k : ℕ). product w signal from (first + k)) n)
 
       pub turn-mul : SFits w32 (toZ w32 (ofZ w32 (toZ w16 (ofZ w16 x))) *ℤ toZ w32 (ofZ w32 (toZ w16 (ofZ w16 y))))
-      turn-mul = rw (widened32 x p, widened32 y q) product-fits
+      turn-mul = rw (widened-to w32 tt x-fits, widened-to w32 tt y-fits) product-fits
 
       term-back : toZ w32 (ofZ w32 (toZ w32 (ofZ w32 (toZ w16 (ofZ w16 x))) *ℤ toZ w32 (ofZ w32 (toZ w16 (ofZ w16 y))))) ≡ x *ℤ y
-      term-back = rw (widened32 x p, widened32 y q) (toZ-ofZ w32 _ product-fits)
+      term-back = rw (widened-to w32 tt x-fits, widened-to w32 tt y-fits) (toZ-ofZ w32 _ product-fits)
 
       abbrev next : ℤ
       next = toZ w32 v +ℤ toZ w32 (ofZ w32 (toZ w32 (ofZ w32 (toZ w16 (ofZ w16 x))) *ℤ toZ w32 (ofZ w32 (toZ w16 (ofZ w16 y)))))

@@ -1,28 +1,17 @@
 -- Plain sums of integers, `total _+ℤ_ s f n`, and sums in the accumulator, which are the plain ones wrapped once.
 use native.Mathlib.Omega.{arith}
-use native.Mathlib.Nat.{add-zero, add-suc}
 use mathlib.Core.Path.{_≡_, refl, sym, ap, _∙_}
 use Prim.Native.Nat.{ℕ, zero, suc, _+_, _-_, _<_}
-use lib.IntN.{ℤ, pos, _+ℤ_, _*ℤ_, +ℤ-assoc, +ℤ-comm, +ℤ-idr}
-use Rattle.sequence.specs.Total.{total, total-same}
+use lib.IntN.{ℤ, pos, _+ℤ_, _*ℤ_, +ℤ-idr}
+use Rattle.sequence.specs.Total.{total, total-same, total-split, total-first}
 use Rattle.fixed.specs.Fixed.{acc, fold}
-use Rattle.fixed.specs.Integers.{mul-add}
+use Rattle.fixed.specs.Integers.{add-swap, mul-add}
 use Rattle.fixed.specs.Wrap.{wrap-wrap, wrap-add}
-
--- the total of m + n terms goes on from that of m
-pub total-split : {A B : Type 0} (step : A → B → A) (s : A) (f : ℕ → B) (m n : ℕ) → total step s f (m + n) ≡ total step (total step s f m) (λ (k : ℕ). f (m + k)) n
-unfolding total
-total-split step s f m zero = ap (total step s f) (add-zero m)
-total-split step s f m (suc n) = ap (total step s f) (add-suc m n) ∙ rw (total-split step s f m n)
 
 module _ (f : ℕ → ℤ) where
   -- a term may come first or last
   pub sum-from : (s x : ℤ) (n : ℕ) → total _+ℤ_ (s +ℤ x) f n ≡ total _+ℤ_ s f n +ℤ x
-  unfolding total
-  sum-from s x zero = refl
-  sum-from s x (suc n) =
-      let t : ℤ = total _+ℤ_ s f n in
-      ap (λ (z : ℤ). z +ℤ f n) (sum-from s x n) ∙ +ℤ-assoc t x (f n) ∙ ap (λ (z : ℤ). t +ℤ z) (+ℤ-comm x (f n)) ∙ sym (+ℤ-assoc t (f n) x)
+  sum-from s x n = total-first _+ℤ_ add-swap s x f n
 
   -- a sum taken backwards is the sum
   pub sum-backwards : (s : ℤ) (n : ℕ) → total _+ℤ_ s (λ (k : ℕ). f (n - suc k)) n ≡ total _+ℤ_ s f n

@@ -1,3 +1,2 @@
 mod Carried
-mod Mapped
 mod Scaling

@@ -1,40 +1,22 @@
--- The scaling in 32 bits: of a 16-bit value no product wraps, and the high half of what is saturated to 32 bits is the quotient by 2 ^ 16 saturated to 16.
+-- The scaling in 32 bits: of a 16-bit value no product wraps.
 use native.Mathlib.Omega.{arith}
-use mathlib.Core.Bool.{Bool, true, false, cond}
-use mathlib.Core.Path.{_≡_, refl, ap, sym, _∙_}
-use Prim.Native.Nat.{ℕ, _/_, _≤_}
-use lib.Dec.{T, ltb, leb, leb→le}
-use lib.IntN.{ℤ, pos, negsuc, natAbs, _+ℤ_, _*ℤ_}
+use mathlib.Core.Path.{_≡_, ap, sym, _∙_}
+use Prim.Native.Nat.{ℕ, _≤_}
+use lib.Dec.{T, leb, leb→le}
+use lib.IntN.{ℤ, pos, natAbs, _+ℤ_, _*ℤ_}
 use lib.Signed.{shrZ}
-use borrow.Author.Tests.{lt-ltb, le-ltb, ltb-true, ltb-false}
 use mir.Syntax.{w16}
 use mir.Val.{SFits}
-use Rattle.fixed.specs.Fixed.{clamp, acc, fold, sat, hi, mul, shift}
+use Rattle.fixed.specs.Fixed.{acc, fold, sat, hi, mul, shift}
 use Rattle.fixed.specs.Abs.{abs-mul-le}
 use Rattle.fixed.specs.Integers.{mul-add, mul-mul}
 use Rattle.fixed.specs.Quotients.{shr-scale}
-use Rattle.fixed.specs.Wrap.{wrap-id, acc-fits}
+use Rattle.fixed.specs.Wrap.{acc-fits}
+use Rattle.fixed.specs.Halves.{sat16, hi-sat}
 use Rattle.fixed.specs.Shifts.{shift-up}
 use Rattle.fixed.specs.Sums.{fold-fits}
 use Rattle.fixed.specs.Machine.{abs-sfits}
 use Rattle.postfilter.specs.Postfilter.{rounded, scaled}
-
--- saturated to 16 bits
-abbrev pub sat16 : ℤ → ℤ
-sat16 z = clamp (negsuc 32767) (pos 32767) z
-
-hi-sat : (z : ℤ) → hi (sat z) ≡ sat16 (shrZ z 65536)
-unfolding clamp
-hi-sat (pos n) = go (ltb 2147483647 n) refl
-  where
-    go : (t : Bool) → ltb 2147483647 n ≡ t → hi (cond t (pos 2147483647) (pos n)) ≡ cond (ltb 32767 (n / 65536)) (pos 32767) (pos (n / 65536))
-    go true t = simp (lt-ltb 32767 (n / 65536) (omega (arith, ltb-true 2147483647 n t))) (wrap-id 15 (pos 32767) (omega arith))
-    go false t = simp (le-ltb 32767 (n / 65536) (omega (arith, ltb-false 2147483647 n t))) (wrap-id 15 (pos (n / 65536)) (omega (arith, ltb-false 2147483647 n t)))
-hi-sat (negsuc n) = go (ltb 2147483647 n) refl
-  where
-    go : (t : Bool) → ltb 2147483647 n ≡ t → hi (cond t (negsuc 2147483647) (negsuc n)) ≡ cond (ltb 32767 (n / 65536)) (negsuc 32767) (negsuc (n / 65536))
-    go true t = simp (lt-ltb 32767 (n / 65536) (omega (arith, ltb-true 2147483647 n t))) (wrap-id 15 (negsuc 32767) (omega arith))
-    go false t = simp (le-ltb 32767 (n / 65536) (omega (arith, ltb-false 2147483647 n t))) (wrap-id 15 (negsuc (n / 65536)) (omega (arith, ltb-false 2147483647 n t)))
 
 -- a product by any scale of 16 bits; that what follows is so bounded does not hang on which scale it is
 pub product-le : (v : ℤ) (k : ℕ) → SFits w16 v → T (leb k 32768) → natAbs (v *ℤ pos k) ≤ 1073741824

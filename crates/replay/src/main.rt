@@ -16,7 +16,7 @@ use libc::STDOUT_FILENO;
 ghost use mathlib.Core.Path.{_≡_};
 ghost use Prim.Native.Nat.{_<_, _≤_, _+_};
 ghost use lib.ListN.{length};
-ghost use Rattle.codebook.specs.Sound.{SoundWords};
+ghost use Rattle.tables.specs.SoundWords.{SoundWords};
 
 // The numbers of a line, and where the next line begins.
 struct Question {

@@ -4,7 +4,7 @@ use crate::say;
 use crate::say_words;
 use codebook::Innovation;
 use libc::STDOUT_FILENO;
-ghost use Rattle.codebook.specs.Sound.{SoundWords};
+ghost use Rattle.tables.specs.SoundWords.{SoundWords};
 
 fn index(x: i64) -> u16 {
     (fixed::magnitude(x) % 65536) as u16

@@ -2,6 +2,7 @@ pub mod Repeated
 pub mod Total
 pub mod Table
 pub mod Rewritten
+pub mod Mapped
 pub mod Copied
 pub mod First
 pub mod All

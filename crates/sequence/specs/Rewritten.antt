@@ -32,6 +32,13 @@ module _ {A : Type 0} where
   pub rewritten-end : (g : ℕ → List A → A) (start : ℕ) (l : List A) {i n : ℕ} {x : List A} → i ≤ n → n ≤ i → x ≡ rewritten g start l i → x ≡ rewritten g start l n
   rewritten-end g start l {i} {n} p q e = let h : i ≡ n = omega arith in e ∙ ap (rewritten g start l) h
 
+  -- the list sees of g only what it gives
+  pub rewritten-same : (f g : ℕ → List A → A) (start : ℕ) (l : List A) (n : ℕ) → ((k : ℕ) (x : List A) → f k x ≡ g k x) → rewritten f start l n ≡ rewritten g start l n
+  unfolding rewritten
+  rewritten-same f g start l zero h = refl
+  rewritten-same f g start l (suc n) h =
+      ap (λ (x : List A). set x (start + n) (f n x)) (rewritten-same f g start l n h) ∙ ap (λ (y : A). set (rewritten g start l n) (start + n) y) (h n (rewritten g start l n))
+
   -- what stands before start stays
   pub take-rewritten : (g : ℕ → List A → A) (start : ℕ) (l : List A) (n : ℕ) → take start (rewritten g start l n) ≡ take start l
   unfolding rewritten

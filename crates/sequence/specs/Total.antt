@@ -2,6 +2,7 @@
 use Prim.Native.Nat.{ℕ, zero, suc, _+_, _<_, _≤_}
 use mathlib.Core.Path.{_≡_, refl, ap, _∙_}
 use native.Mathlib.Numerals.{add-one}
+use native.Mathlib.Nat.{add-zero, add-suc}
 use native.Mathlib.Omega.{arith}
 
 module _ {A B : Type 0} where
@@ -34,6 +35,18 @@ module _ {A B : Type 0} where
   total-same step s f g zero h = refl
   total-same step s f g (suc n) h =
       ap (λ (x : A). step x (f n)) (total-same step s f g n (λ k p. h k (omega arith))) ∙ ap (step (total step s g n)) (h n (omega arith))
+
+  -- the total of m + n terms goes on from that of m
+  pub total-split : (step : A → B → A) (s : A) (f : ℕ → B) (m n : ℕ) → total step s f (m + n) ≡ total step (total step s f m) (λ (k : ℕ). f (m + k)) n
+  unfolding total
+  total-split step s f m zero = ap (total step s f) (add-zero m)
+  total-split step s f m (suc n) = ap (total step s f) (add-suc m n) ∙ rw (total-split step s f m n)
+
+  -- where terms may come in in another order, the first may come last
+  pub total-first : (step : A → B → A) → ((s : A) (x y : B) → step (step s x) y ≡ step (step s y) x) → (s : A) (x : B) (f : ℕ → B) (n : ℕ) → total step (step s x) f n ≡ step (total step s f n) x
+  unfolding total
+  total-first step swap s x f zero = refl
+  total-first step swap s x f (suc n) = ap (λ (a : A). step a (f n)) (total-first step swap s x f n) ∙ swap (total step s f n) x (f n)
 
 -- what a step keeps is kept
 pub total-keeps : {A B : Type 0} (step : A → B → A) (P : A → Type 0) (s : A) (f : ℕ → B) → ((x : A) (k : ℕ) → P x → P (step x (f k))) → P s → (n : ℕ) → P (total step s f n)

@@ -3,4 +3,5 @@ pub mod Tables
 pub mod Rules
 pub mod Told
 pub mod Sound
+pub mod SoundWords
 pub mod Bare

@@ -2,7 +2,6 @@
 use Prim.Native.Nat.{ℕ, zero, suc, _+_, _*_, _≤_, _<_}
 use mathlib.Core.Path.{_≡_, refl, ap}
 use mathlib.Core.List.{List}
-use mathlib.Core.Bool.{not}
 use mathlib.Core.Logic.{_⊎_, inl, inr, ⊎-elim}
 use native.Mathlib.Numerals.{add-one}
 use native.Mathlib.Omega.{arith}
@@ -11,10 +10,7 @@ use lib.ListN.{length}
 use lib.Dec.{T, leb→le}
 use lib.IntN.{ℤ, pos, negsuc, natAbs}
 use lib.Signed.{_≤ℤ_}
-use lib.Ieee.{Float, nan, inf, fin, isNan}
-use lib.Ieee.Scale.{finite}
 use Rattle.floats.specs.Floats.{floatAt, within}
-use Rattle.floats.specs.Within.{within→, within-finite}
 use Rattle.tables.specs.Places.{WORDS, BYTES, FCB-PULSES, FCB-SHAPE-SEL, FCB-POSITIONS}
 use Rattle.tables.specs.Tables.{unsigned, unsignedWord, limit, base, selector, position, entry, pitchGain, logGain, gainBias, low, high, ma, check}
 use Rattle.tables.specs.Rules.{Obeys, accepted, accepted-only}
@@ -38,7 +34,7 @@ sound words bytes e =
 pub sound-only : (words : List ℤ) (bytes : List ℕ) → Sound words bytes → check words bytes ≡ 0
 sound-only words bytes s = accepted words bytes (s .words-long) (s .of-bytes .bytes-long) (s .rules)
 
--- ---- floats: each that config.rs reads is within 65,536
+-- ---- floats: each that config.rs reads is within 65,536, hence finite and no NaN (floats.specs.Within)
 module _ {bytes : List ℕ} (s : SoundBytes bytes) where
   -- the float at byte place 4 * k, however the place is written
   pub float-within : (at k : ℕ) → at ≡ 4 * k → k < 977 → T (within 65536 (floatAt bytes at))
@@ -61,16 +57,6 @@ module _ {bytes : List ℕ} (s : SoundBytes bytes) where
 
   pub ma-within : (mode tap k : ℕ) → mode < 2 → tap < 4 → k < 10 → T (within 65536 (ma bytes mode tap k))
   ma-within mode tap k h g l = float-within (3588 + 4 * (mode * 40 + tap * 10 + k)) (897 + mode * 40 + tap * 10 + k) (omega arith) (omega arith)
-
--- hence finite, and no NaN
-pub within-is-finite : (x : Float) → T (within 65536 x) → T (finite x)
-within-is-finite x h = within-finite 65536 x (within→ 65536 x h)
-
-pub within-is-number : (x : Float) → T (within 65536 x) → T (not (isNan x))
-unfolding within isNan
-within-is-number nan h = absurd h
-within-is-number (inf s) h = tt
-within-is-number (fin s m e) h = tt
 
 -- ---- words
 -- a word that is not negative is what its unsigned reading gives

@@ -6,7 +6,7 @@ use borrow.Author.Tests.{eq-eqb, ne-eqb, not-true, not-false}
 use Rattle.tables.specs.Rules.{tests}
 use Rattle.tables.specs.Sound.{sound}
 use Rattle.bits.specs.Bits.{fieldsOf}
-use Rattle.codebook.specs.Sound.{sound-words}
+use Rattle.tables.specs.SoundWords.{sound-words}
 use Rattle.frame.specs.Frame as Frame
 use Rattle.celp.specs.Celp.{refusal}
 use Rattle.celp.proofs.Refusals.{wrong-lengths, right-lengths, broken-rule, in-order}

@@ -10,7 +10,7 @@ use mir.Syntax.{w16}
 use mir.Val.{toZ}
 use mir.ValLaws.{toZ-pos}
 use Rattle.fixed.specs.Machine.{back}
-use Rattle.codebook.specs.Sound.{pulses-within}
+use Rattle.tables.specs.SoundWords.{pulses-within}
 use Rattle.codebook.specs.Codebook as Codebook
 use Rattle.codebook.proofs.Digits.{Found, found-none, found-more, found-end, small}
 use Rattle.codebook.proofs.decompose.Statement.{statement}

@@ -9,7 +9,7 @@ use mir.Val.{toZ, ofZ}
 use Rattle.sequence.specs.Repeated.{repeated, repeated-again, repeated-end}
 use Rattle.fixed.specs.Machine.{back}
 use Rattle.tables.specs.Tables as Tables
-use Rattle.codebook.specs.Sound.{entry-at}
+use Rattle.tables.specs.SoundWords.{entry-at}
 use Rattle.codebook.specs.Codebook as Codebook
 use Rattle.codebook.proofs.place_pulses.Statement.{statement}
 use Rattle.codebook.proofs.place_pulses.Tie as tie

@@ -10,7 +10,7 @@ use mir.Syntax.{w16}
 use mir.Val.{toZ, ofZ}
 use Rattle.sequence.specs.Repeated.{repeated, repeated-again, repeated-end}
 use Rattle.fixed.specs.Machine.{back}
-use Rattle.codebook.specs.Sound.{pulses-within}
+use Rattle.tables.specs.SoundWords.{pulses-within}
 use Rattle.codebook.specs.Codebook as Codebook
 use Rattle.codebook.specs.Ranges.{slot-fits}
 use Rattle.codebook.proofs.place_shapes.Statement.{statement}

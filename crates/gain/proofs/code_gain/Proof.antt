@@ -6,7 +6,7 @@ use lib.Ieee.{Float}
 use mir.Syntax.{w16}
 use mir.ValLaws.{toZ-ofZ}
 use Rattle.floats.specs.Floats.{quantise}
-use Rattle.floats.specs.Within.{within→, within-finite}
+use Rattle.floats.specs.Within.{within-is-finite}
 use Rattle.gain.specs.Gain.{codeGain}
 use Rattle.gain.specs.Ranges.{Carried}
 use Rattle.gain.proofs.code_gain.Statement.{statement}
@@ -24,7 +24,7 @@ enum-known-a c = search needs
 exp-requires : tie.Need-exp-requires
 exp-requires c κs =
     let x = c .before .a .given .0 .0 in
-    within-finite 16 x (within→ 16 x (subst Carried (c .before .a .given .1) (c .before .before .before .pre)))
+    within-is-finite 16 x (subst Carried (c .before .a .given .1) (c .before .before .before .pre))
 
 quantise-requires : tie.Need-quantise-requires
 quantise-requires c κs = search needs

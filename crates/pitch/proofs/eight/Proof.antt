@@ -4,8 +4,10 @@ use mathlib.Core.Path.{_≡_, _∙_, ap}
 use Prim.Native.Nat.{_+_, _-_, _≤_}
 use lib.IntN.{pos}
 use lib.ListN.{getD}
+use mir.Syntax.{w16, w32}
+use Rattle.fixed.specs.Machine.{widens-to}
 use Rattle.pitch.specs.Window as Window
-use Rattle.pitch.proofs.Filter.{Summed, summed-none, summed-back, widens32, turn-mul, turn-add, turn-more}
+use Rattle.pitch.proofs.Filter.{Summed, summed-none, summed-back, turn-mul, turn-add, turn-more}
 use Rattle.pitch.proofs.eight.Statement.{statement}
 use Rattle.pitch.proofs.eight.Tie as tie
 
@@ -30,7 +32,7 @@ shared-slice-copy-out-sum c = omega arith
 cast-sum : tie.Need-cast-sum Inv-loop μ-loop
 cast-sum c =
     let l = c .before .before in
-    widens32 (getD (l .before .args .signal .now) (l .before .args .from + l .loop .k) (pos 0)) (c .sum .given)
+    widens-to w32 {w = w16} {z = getD (l .before .args .signal .now) (l .before .args .from + l .loop .k) (pos 0)} tt (record { sfits = c .sum .given })
 
 mul-sum-2 : tie.Need-mul-sum-2 Inv-loop μ-loop
 mul-sum-2 c = omega arith
@@ -41,7 +43,7 @@ shared-slice-copy-out-sum-2 c = omega arith
 cast-sum-2 : tie.Need-cast-sum-2 Inv-loop μ-loop
 cast-sum-2 c =
     let l = c .before .before .before in
-    widens32 (getD (l .before .args .taps .now) (l .loop .k) (pos 0)) (c .sum2 .given)
+    widens-to w32 {w = w16} {z = getD (l .before .args .taps .now) (l .loop .k) (pos 0)} tt (record { sfits = c .sum2 .given })
 
 mul-sum-3 : tie.Need-mul-sum-3 Inv-loop μ-loop
 mul-sum-3 c =

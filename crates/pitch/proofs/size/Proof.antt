@@ -6,17 +6,16 @@ use mir.Syntax.{w16, w32}
 use mir.Val.{SFits, toZ, ofZ}
 use mir.ValLaws.{toZ-ofZ}
 use Rattle.fixed.specs.Abs.{nonneg-is, neg-is, minus-is}
-use Rattle.fixed.specs.Machine.{sfits-abs, abs-sfits}
-use Rattle.pitch.proofs.Filter.{widens32, widened32}
+use Rattle.fixed.specs.Machine.{sfits-abs, abs-sfits, widens-to, widened-to}
 use Rattle.pitch.proofs.size.Statement.{statement}
 use Rattle.pitch.proofs.size.Tie as tie
 
 cast-t : tie.Need-cast-t
-cast-t c = widens32 (c .args .tap) (c .fits .tap .sfits)
+cast-t c = widens-to w32 tt (c .fits .tap)
 
 module _ (c : tie.Start) where
   t-back : toZ w32 (ofZ w32 (toZ w16 (ofZ w16 (c .args .tap)))) ≡ c .args .tap
-  t-back = widened32 (c .args .tap) (c .fits .tap .sfits)
+  t-back = widened-to w32 tt (c .fits .tap)
 
   fits : SFits w32 (pos (natAbs (c .args .tap)))
   fits = sfits-abs w32 _ (omega (arith, abs-sfits w16 (c .args .tap) (c .fits .tap)))

@@ -1,4 +1,4 @@
--- What is done by place n: proofs/Mapped.
+-- What is done by place n: Mapped of sequence.
 use borrow.Author.Needs.{needs}
 use native.Mathlib.Omega.{arith}
 use mathlib.Core.Path.{_≡_, _∙_}
@@ -7,9 +7,9 @@ use lib.IntN.{pos}
 use lib.ListN.{length, getD}
 use mir.Syntax.{w16}
 use mir.Val.{toZ, ofZ}
+use Rattle.sequence.specs.Mapped.{Mapped, mapped-none, mapped-more, mapped-end}
 use Rattle.fixed.specs.Machine.{back}
 use Rattle.postfilter.specs.Postfilter.{scaled}
-use Rattle.postfilter.proofs.Mapped.{Mapped, mapped-none, mapped-more, mapped-end}
 use Rattle.postfilter.proofs.scale.Statement.{statement}
 use Rattle.postfilter.proofs.scale.Tie as tie
 

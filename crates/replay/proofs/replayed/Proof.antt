@@ -1,7 +1,7 @@
 -- What the check lets pass is sound.
 use mathlib.Core.Path.{sym, _∙_}
 use Rattle.tables.specs.Sound.{sound}
-use Rattle.codebook.specs.Sound.{sound-words}
+use Rattle.tables.specs.SoundWords.{sound-words}
 use borrow.Author.Needs.{needs}
 use Rattle.replay.proofs.replayed.Statement.{statement}
 use Rattle.replay.proofs.replayed.Tie as tie

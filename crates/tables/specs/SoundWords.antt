@@ -1,4 +1,4 @@
--- What the codebook asks of the words of an accepted set.
+-- The words of an accepted set, as the premise of what reads words alone.
 use Prim.Native.Nat.{ℕ, _+_, _-_, _*_, _≤_, _<_}
 use mathlib.Core.Path.{_≡_}
 use mathlib.Core.List.{List}
@@ -6,9 +6,9 @@ use mathlib.Core.Logic.{_⊎_, ⊎-elim}
 use native.Mathlib.Omega.{arith}
 use lib.ListN.{length}
 use lib.IntN.{ℤ, natAbs}
 use Rattle.tables.specs.Places.{WORDS, FCB-PULSES, FCB-SHAPE-SEL, FCB-ALT-A, LSF-CB1}
 use Rattle.tables.specs.Tables.{word, unsignedWord, limit, base, entry}
-use Rattle.tables.specs.Sound as Tables
+use Rattle.tables.specs.Sound as Sound
 
 pub record SoundWords (words : List ℤ) : Type 0 where
   pub words-long : length words ≡ WORDS
@@ -18,14 +18,14 @@ pub record SoundWords (words : List ℤ) : Type 0 where
   pub selector-le : (k : ℕ) → k < 5 → unsignedWord words (FCB-SHAPE-SEL + 3 * k) ≤ 29
   pub entry-size : (k : ℕ) → k < 3200 → (1 ≤ natAbs (entry words k)) × (natAbs (entry words k) ≤ 80)
 
-pub sound-words : {words : List ℤ} {bytes : List ℕ} → Tables.Sound words bytes → SoundWords words
+pub sound-words : {words : List ℤ} {bytes : List ℕ} → Sound.Sound words bytes → SoundWords words
 sound-words s = record {
   words-long = s .words-long;
-  limit-positive = Tables.limit-positive s;
-  base-zero = Tables.base-zero s;
-  pulses-are = Tables.pulses-are s;
-  selector-le = Tables.selector-le s;
-  entry-size = Tables.entry-size s;
+  limit-positive = Sound.limit-positive s;
+  base-zero = Sound.base-zero s;
+  pulses-are = Sound.pulses-are s;
+  selector-le = Sound.selector-le s;
+  entry-size = Sound.entry-size s;
 }
 
 module _ {words : List ℤ} (s : SoundWords words) where
