@@ -1,4 +1,4 @@
-//! The module list that the source's own mod.rs would have, and one more module, which asks.
+//! The module list that the source's own mod.rs would have, and modules that ask.
 pub const SUBFRAME: usize = 80;
 pub const LPC_ORDER: usize = 10;
 
@@ -9,6 +9,7 @@ pub mod lsp;
 pub mod pitch;
 pub mod postfilter;
 pub mod probe;
+pub mod recordings;
 pub mod synth;
 pub mod tables;
 pub mod trace;

@@ -5,7 +5,10 @@
 //! oracle timed TABLES                   the recording on standard input decoded from reset, and a sum over its samples
 //! oracle trace TABLES [junk]            every figure of every frame of the recording on standard input, from reset; with junk
 //!                                       in the places that no frame may depend on
+//! oracle digest TABLES                  the same in a line for each line of the recording: 32 bits for each part
+//! oracle compare PROGRAM SETS LINES     the program `trace` on sets of every kind, every figure compared (compare.rs)
 //! oracle frames COUNT [SEED]            that many random frames as lines of hexadecimal, damaged ones among them
+//! oracle recording TABLES COUNT [SEED]  that many lines, most of them frames that the set accepts (recordings.rs)
 //! oracle set KIND [SEED]                a table set of 15,834 bytes (sets.rs says which kinds)
 use std::io::{self, BufRead, Read, Write};
 
@@ -17,6 +20,7 @@ macro_rules! include_bytes {
 }
 
 mod celp;
+mod compare;
 mod lent;
 mod random;
 mod sets;
@@ -71,17 +75,27 @@ fn main() {
                 writeln!(out, "{}", show(&Native::answer(&words[1], &question))).unwrap();
             }
         }
-        Some("trace") => {
+        Some(how @ ("trace" | "digest" | "timed")) => {
             lent::fill(&std::fs::read(&words[1]).expect("the table file"));
             let mut recording = Vec::new();
             io::stdin().lock().read_to_end(&mut recording).unwrap();
-            Native::trace(&recording, words.get(2).is_some_and(|w| w == "junk"), &mut out);
+            match how {
+                "trace" => Native::trace(&recording, words.get(2).is_some_and(|w| w == "junk"), &mut out),
+                "digest" => Native::digest(&recording, &mut out),
+                _ => writeln!(out, "{}", Native::timed(&recording)).unwrap(),
+            }
         }
-        Some("timed") => {
+        Some("compare") => {
+            let number = |k: usize| words[k].parse().expect("a number");
+            if !compare::all(&words[1], number(2), number(3) as usize) {
+                std::process::exit(1);
+            }
+        }
+        Some("recording") => {
             lent::fill(&std::fs::read(&words[1]).expect("the table file"));
-            let mut recording = Vec::new();
-            io::stdin().lock().read_to_end(&mut recording).unwrap();
-            writeln!(out, "{}", Native::timed(&recording)).unwrap();
+            let count: usize = words[2].parse().expect("a count");
+            let seed = words.get(3).map_or(1, |s| s.parse().expect("a seed"));
+            out.write_all(&Native::recording(count, seed)).unwrap();
         }
         Some("frames") => {
             let count: usize = words[1].parse().expect("a count");
@@ -92,6 +106,6 @@ fn main() {
             let seed = words.get(2).map_or(1, |s| s.parse().expect("a seed"));
             out.write_all(&sets::set(&words[1], seed)).unwrap();
         }
-        _ => eprintln!("oracle questions MODULE [SEED] | oracle answers MODULE [TABLES]"),
+        _ => eprintln!("no such command: main.rs lists them"),
     }
 }

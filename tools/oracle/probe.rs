@@ -191,28 +191,22 @@ fn bits_questions(r: &mut Random) -> Vec<Question> {
     all
 }
 
-// the number, the 24 fields (mod.rs's two changes made), and where accepted the payload, which the packer must give back
-fn bits_answer(q: &[i64]) -> Vec<i64> {
-    let payload: [u8; 20] = q
-        .iter()
-        .map(|&x| x as u8)
-        .collect::<Vec<_>>()
-        .try_into()
-        .unwrap();
-    let Ok(mut params) = post_fec::unpack(&payload) else {
-        return [vec![6], vec![0; 24]].concat();
-    };
+pub const FIELDS: usize = 24;
+
+// The fields of a frame, mod.rs's two changes made; none where padding is set.
+pub fn fields(payload: &[u8; 20]) -> Option<[u16; FIELDS]> {
+    let mut params = post_fec::unpack(payload).ok()?;
     let mut low = 0;
     for k in 74..78 {
         low = 2 * low + ((payload[k / 8] >> (k % 8)) & 1);
     }
     params.halves[1].gain_low[1] = Some(low);
     params.halves[0].absolute_pitch ^= 3;
-    let mut out = vec![0];
+    let mut out = Vec::new();
     for half in &params.halves {
-        out.extend(half.gain_low.map(|g| g.unwrap() as i64));
-        out.extend(half.code.map(|c| c as i64));
-        out.extend(half.gain_high.map(|g| g as i64));
+        out.extend(half.gain_low.map(|g| g.unwrap() as u16));
+        out.extend(half.code);
+        out.extend(half.gain_high.map(|g| g as u16));
         out.extend(
             [
                 half.mode,
@@ -222,11 +216,19 @@ fn bits_answer(q: &[i64]) -> Vec<i64> {
                 half.absolute_pitch,
                 half.relative_pitch,
             ]
-            .map(|x| x as i64),
+            .map(|x| x as u16),
         );
     }
-    out.extend(q);
-    out
+    out.try_into().ok()
+}
+
+// the number, the fields, and where accepted the payload, which the packer must give back
+fn bits_answer(q: &[i64]) -> Vec<i64> {
+    let payload: Vec<u8> = q.iter().map(|&x| x as u8).collect();
+    match fields(&payload.try_into().unwrap()) {
+        None => [vec![6], vec![0; FIELDS]].concat(),
+        Some(f) => [vec![0], f.map(i64::from).to_vec(), q.to_vec()].concat(),
+    }
 }
 
 fn numbers(w: &[i16]) -> Vec<i64> {
@@ -363,8 +365,8 @@ fn codebook_questions(r: &mut Random) -> Vec<Question> {
     all
 }
 
-// The digits, worked out as codebook.rs does, to leave out what it would panic on or read elsewhere.
-pub fn digits_fit(index: u16) -> bool {
+// The digits of an index as codebook.rs works them out, each before and after it is cut to 16 bits; none in class 5.
+pub fn digits(index: u16) -> Vec<(i64, i16)> {
     use super::tables::*;
     let index = index.min(FCB_INDEX_LIMIT[0] - 1);
     let class = (0..6)
@@ -372,19 +374,23 @@ pub fn digits_fit(index: u16) -> bool {
         .find(|&k| index >= FCB_CLASS_BASE[k])
         .unwrap_or(0);
     if class == 5 {
-        return true;
+        return vec![];
     }
     let pulses = FCB_PULSES[class] as usize;
     let mut x = (index - FCB_CLASS_BASE[class]) as i64 >> pulses;
+    let mut all = Vec::new();
     for k in (0..pulses).rev() {
         let q = low((x * FCB_RADIX_INV[3 * class + k] as i64) >> 17) as i64;
-        let digit = low(x - q * FCB_RADIX[3 * class + k] as i64);
-        if !(0..40).contains(&digit) {
-            return false;
-        }
+        let digit = x - q * FCB_RADIX[3 * class + k] as i64;
+        all.push((digit, low(digit)));
         x = q;
     }
-    true
+    all
+}
+
+// Whether every position digit lies in 0..=39; the others codebook.rs would panic on or read elsewhere.
+pub fn digits_fit(index: u16) -> bool {
+    digits(index).iter().all(|(_, digit)| (0..40).contains(digit))
 }
 
 fn codebook_answer(q: &[i64]) -> Vec<i64> {

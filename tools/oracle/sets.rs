@@ -1,28 +1,50 @@
 //! Table sets that obey the set rules, each from a kind and a seed.
 //!
-//! bare      all words 0 but limit 1, pulses 2, ALT entries 1; all bytes 0
-//! speech    cosines, a windowed sinc, decaying pulses, moderate gains: tables as a codec would have them
-//! moderate  speech, with a tenth of the words and floats drawn anew
-//! extreme   words over all 16 bits, floats at ±65,536, ±0 and subnormal, LSP means of -32,768
+//! bare           all words 0 but limit 1, pulses 2, ALT entries 1; all bytes 0
+//! smooth         tables that change little from place to place: cosines, round pulses, books and gains along slow curves
+//! speech         cosines, a windowed sinc, decaying pulses, moderate gains: tables as a codec would have them
+//! moderate       speech, with a tenth of the words and floats drawn anew
+//! extreme        words over all 16 bits, floats at ±65,536, ±0 and subnormal, LSP means of -32,768
+//! large          speech, with floats at ±65,536 or next to it, table by table
+//! subnormal      speech, with subnormal floats, ±0 and the smallest normal ones, table by table
+//! lowest         speech, with cosines that give LSPs of -32,768
+//! zero_residual  speech, with cosines that stand still or rise, so that the last LPC number is 4,096 or more
+//! odd_radix      speech, with odd radices, inverses that are off, radices and inverses of any 16 bits, classes that are empty
 use crate::lent::{BYTES, WORDS};
 use crate::random::Random;
 use std::f64::consts::PI;
 
-pub const KINDS: [&str; 4] = ["bare", "speech", "moderate", "extreme"];
+pub const KINDS: [&str; 10] = [
+    "bare",
+    "smooth",
+    "speech",
+    "moderate",
+    "extreme",
+    "large",
+    "subnormal",
+    "lowest",
+    "zero_residual",
+    "odd_radix",
+];
 
 pub fn set(kind: &str, seed: u64) -> Vec<u8> {
     let mut r = Random::new(seed);
     let mut words = vec![0i16; WORDS];
     let mut floats = vec![0f32; BYTES / 4];
     bare(&mut words);
+    if !["bare", "extreme"].contains(&kind) {
+        speech(&mut r, &mut words, &mut floats);
+    }
     match kind {
-        "bare" => {}
-        "speech" => speech(&mut r, &mut words, &mut floats),
-        "moderate" => {
-            speech(&mut r, &mut words, &mut floats);
-            moderate(&mut r, &mut words, &mut floats);
-        }
+        "bare" | "speech" => {}
+        "smooth" => smooth(&mut r, &mut words, &mut floats),
+        "moderate" => moderate(&mut r, &mut words, &mut floats),
         "extreme" => extreme(&mut r, &mut words, &mut floats),
+        "large" => redrawn(&mut r, &mut floats, large_float),
+        "subnormal" => subnormal(&mut r, &mut words, &mut floats),
+        "lowest" => lowest(&mut r, &mut words),
+        "zero_residual" => zero_residual(&mut r, seed, &mut words),
+        "odd_radix" => odd_radix(&mut r, &mut words),
         _ => panic!("no set {kind}: one of {KINDS:?}"),
     }
     let words = words.iter().flat_map(|w| w.to_le_bytes());
@@ -191,5 +213,171 @@ fn extreme(r: &mut Random, words: &mut [i16], floats: &mut [f32]) {
         if r.below(2) == 0 {
             floats[i] = spread(r, if i < 128 { 40000.0 } else { 16.0 }) as f32;
         }
+    }
+}
+
+/// A slow curve within ±1 over 0..=1, another for each draw.
+fn curve(r: &mut Random) -> impl Fn(f64) -> f64 {
+    let (first, second) = (PI * spread(r, 1.0), PI * spread(r, 1.0));
+    move |x| 0.7 * (PI * x + first).cos() + 0.3 * (2.0 * PI * x + second).cos()
+}
+
+fn smooth(r: &mut Random, words: &mut [i16], floats: &mut [f32]) {
+    let height = curve(r);
+    for row in 0..32 {
+        for n in 0..20 {
+            let round = (PI * (n + 1) as f64 / 21.0).sin();
+            words[843 + 20 * row + n] = q15(0.3 * height(row as f64 / 32.0) * round);
+        }
+    }
+    for class in 0..15 {
+        for k in 0..40 {
+            words[243 + 40 * class + k] = (2 * k) as i16;
+        }
+    }
+    // five pulses 16 apart, one place on from row to row, all of one sign for some rows
+    let sign = curve(r);
+    for (at, rows) in [(1483, 512), (4043, 128)] {
+        for row in 0..rows {
+            for k in 0..5 {
+                let place = ((row + 16 * k) % 80 + 1) as i16;
+                words[at + 5 * row + k] = if sign(row as f64 / rows as f64) < 0.0 { -place } else { place };
+            }
+        }
+    }
+    for k in 0..10 {
+        let (stage1, low, high) = (curve(r), curve(r), curve(r));
+        for row in 0..128 {
+            words[4683 + 10 * row + k] = (words[138 + k] as f64 + 900.0 * stage1(row as f64 / 128.0)) as i16;
+        }
+        for row in 0..64 {
+            let x = row as f64 / 64.0;
+            floats[257 + 320 * (k / 5) + 5 * row + k % 5] = (200.0 * if k < 5 { low(x) } else { high(x) }) as f32;
+        }
+    }
+    let (pitch, log) = (curve(r), curve(r));
+    for i in 0..128 {
+        let x = i as f64 / 128.0;
+        floats[i] = (8000.0 + 8000.0 * pitch(x)) as f32;
+        floats[128 + i] = (1.5 * log(x)) as f32;
+    }
+}
+
+/// The floats' tables: pitch gains, log gains, the bias, the two books of stage 2, the two prediction matrices.
+const FLOAT_TABLES: [std::ops::Range<usize>; 7] = [0..128, 128..256, 256..257, 257..577, 577..897, 897..937, 937..977];
+
+/// Of the tables some are left, some drawn anew, some half of each, so that floats of both kinds meet. A bias drawn anew mostly gives silence.
+fn redrawn(r: &mut Random, floats: &mut [f32], draw: fn(&mut Random) -> f32) {
+    for table in FLOAT_TABLES {
+        let one_in = match r.below(if table.len() == 1 { 8 } else { 3 }) {
+            0 => 1,
+            1 => 2,
+            _ => continue,
+        };
+        for x in &mut floats[table] {
+            if r.below(one_in) == 0 {
+                *x = draw(r);
+            }
+        }
+    }
+}
+
+fn either(r: &mut Random, x: f32) -> f32 {
+    if r.below(2) == 0 {
+        x
+    } else {
+        -x
+    }
+}
+
+fn large_float(r: &mut Random) -> f32 {
+    let size = 65536f32.to_bits() - if r.below(4) == 0 { r.below(5) as u32 } else { 0 };
+    either(r, f32::from_bits(size))
+}
+
+fn subnormal_float(r: &mut Random) -> f32 {
+    let size = match r.below(8) {
+        0 => 0,
+        1 => 1,
+        2 => 0x007f_ffff,
+        3 => 0x0080_0000,
+        _ => r.below(0x0080_0000) as u32 >> r.below(23),
+    };
+    either(r, f32::from_bits(size))
+}
+
+/// A residual is subnormal where a word of the first stage is 0.
+fn subnormal(r: &mut Random, words: &mut [i16], floats: &mut [f32]) {
+    redrawn(r, floats, subnormal_float);
+    for at in (138..148).chain(4683..WORDS) {
+        if r.below(3) == 0 {
+            words[at] = 0;
+        }
+    }
+}
+
+fn lowest(r: &mut Random, words: &mut [i16]) {
+    for i in 0..64 {
+        match r.below(8) {
+            0..=3 => (words[i], words[64 + i]) = (-32768, 0),
+            4 => (words[i], words[64 + i]) = (-32768, r.word() as i16),
+            _ => {}
+        }
+    }
+    for i in 128..138 {
+        if r.below(2) == 0 {
+            words[i] = -32768;
+        }
+    }
+}
+
+/// The last LPC number is 4,096 and an eighth of what the odd LSPs have more than the even ones.
+/// The cosines nearly stand still, go in stairs, rise a little or rise all the way.
+fn zero_residual(r: &mut Random, seed: u64, words: &mut [i16]) {
+    words[64..128].fill(0);
+    let level = r.word() as i16;
+    for i in 0..64 {
+        words[i] = match seed % 4 {
+            0 => level.saturating_add(r.below(4) as i16),
+            1 => words[8 * (i / 8)],
+            2 => level.saturating_add(i as i16),
+            _ => -words[i].max(-32767),
+        };
+    }
+    for i in 128..138 {
+        words[i] = words[6 * (i - 128) + 3];
+    }
+}
+
+fn odd_radix(r: &mut Random, words: &mut [i16]) {
+    for class in 0..5 {
+        // one digit of a class may be of any radix: some indexes still fit
+        let wild = r.below(5) as usize;
+        for k in 0..3 {
+            let at = 3 * class + k;
+            let odd = 2 * r.below(20) as i32 + 1;
+            let inverse = (131072 / odd + r.below(3) as i32).min(32767);
+            let (radix, inverse) = match (k == wild, r.below(4)) {
+                (false, _) => (odd, inverse),
+                (true, 0) => (r.word() as i32, r.word() as i32),
+                (true, 1) => (-odd, -inverse),
+                // the product with an even quotient is cut to that of the odd radix
+                (true, _) => (odd - 32768, inverse),
+            };
+            words[213 + at] = radix as i16;
+            words[228 + at] = inverse as i16;
+        }
+        words[193 + class] = 2 + r.below(2) as i16;
+    }
+    let mut bases: Vec<u16> = (0..5).map(|_| r.below(50000) as u16).collect();
+    if r.below(2) == 0 {
+        bases[2] = bases[1];
+    }
+    bases.sort();
+    for (k, b) in bases.iter().enumerate() {
+        words[188 + k] = *b as i16;
+    }
+    if r.below(2) == 0 {
+        words[186] = (20000 + r.below(45536)) as u16 as i16;
     }
 }

@@ -1,8 +1,9 @@
 //! Every figure of every frame of a recording, as the Rust gives it: a line a part, numbers in decimal, floats by their bits.
 //! The mark, and refusals 7 and 9, are document 01's; the Rust has none of them.
-use super::{lsp, postfilter::OutputFilter, probe::digits_fit, tables};
+use super::{lsp, postfilter::OutputFilter, probe::digits, probe::digits_fit};
 use crate::celp::{post_fec, Native};
-use std::io::Write;
+use crate::compare::Tally;
+use std::io::{Read, Write};
 
 /// The output filter's memory, which is private there. The same fields in the same order have the same layout; `check` looks.
 struct Memory {
@@ -21,17 +22,47 @@ fn check_layout() {
     assert_eq!(memory(&filter).fir[..3], [7, 5, 3], "the filter's memory is laid out otherwise");
 }
 
+/// The text of what a line of the recording gave, in parts: the head, samples, excitation, four subframes, the next state; or the head and the state.
+#[derive(Default)]
+pub struct Text {
+    pub bytes: Vec<u8>,
+    ends: Vec<usize>,
+}
+
+impl Text {
+    fn line<T: std::fmt::Display>(&mut self, name: &str, numbers: impl IntoIterator<Item = T>) {
+        write!(self.bytes, "{name}").unwrap();
+        for n in numbers {
+            write!(self.bytes, " {n}").unwrap();
+        }
+        writeln!(self.bytes).unwrap();
+    }
+
+    fn end(&mut self) {
+        self.ends.push(self.bytes.len());
+    }
+
+    /// The head as it is, and for each other part 32 bits.
+    fn digest(&self) -> String {
+        let mut from = self.ends[0];
+        let mut text = String::from_utf8_lossy(&self.bytes[..from]).trim_end().to_string();
+        for &end in &self.ends[1..] {
+            text += &format!(" {:08x}", fnv(&self.bytes[from..end]));
+            from = end;
+        }
+        text
+    }
+}
+
+/// FNV-1a of 32 bits.
+fn fnv(bytes: &[u8]) -> u32 {
+    bytes.iter().fold(0x811c_9dc5, |h, &b| (h ^ b as u32).wrapping_mul(0x0100_0193))
+}
+
 pub struct Tracer {
     native: Native,
     pub mark: u8,
-}
-
-fn line<T: std::fmt::Display>(out: &mut impl Write, name: &str, numbers: impl IntoIterator<Item = T>) {
-    write!(out, "{name}").unwrap();
-    for n in numbers {
-        write!(out, " {n}").unwrap();
-    }
-    writeln!(out).unwrap();
+    pub tally: Tally,
 }
 
 /// The payload of a line of 40 hex digits.
@@ -66,30 +97,39 @@ impl Tracer {
         Tracer {
             native: Native::default(),
             mark: 2,
+            tally: Tally::default(),
         }
     }
 
-    pub fn state(&self, out: &mut impl Write) {
+    fn floats(&self) -> impl Iterator<Item = f32> + '_ {
+        let residuals = self.native.spectrum.history.as_flattened();
+        residuals.iter().chain(&self.native.gain.history).copied()
+    }
+
+    fn state(&self, out: &mut Text) {
         let core = &self.native.core;
         let m = memory(&core.output_filter);
-        line(out, "lsp", core.previous_lsp);
-        line(out, "past", &core.excitation[..154]);
-        line(out, "memory", core.synthesis_memory);
-        line(out, "sharpen_fixed", [core.sharpen_fixed]);
-        line(out, "last_half_lag", [core.last_half_lag]);
-        line(out, "fir", m.fir);
-        line(out, "iir", m.iir);
-        line(out, "residuals", self.native.spectrum.history.as_flattened().iter().map(|x| x.to_bits()));
-        line(out, "gains", self.native.gain.history.map(f32::to_bits));
-        line(out, "mark", [self.mark]);
+        out.line("lsp", core.previous_lsp);
+        out.line("past", &core.excitation[..154]);
+        out.line("memory", core.synthesis_memory);
+        out.line("sharpen_fixed", [core.sharpen_fixed]);
+        out.line("last_half_lag", [core.last_half_lag]);
+        out.line("fir", m.fir);
+        out.line("iir", m.iir);
+        out.line("residuals", self.native.spectrum.history.as_flattened().iter().map(|x| x.to_bits()));
+        out.line("gains", self.native.gain.history.map(f32::to_bits));
+        out.line("mark", [self.mark]);
+        out.end();
     }
 
-    pub fn refused(&mut self, number: u8, out: &mut impl Write) {
+    fn refused(&mut self, number: u8, out: &mut Text) {
         self.mark = 0;
-        line(out, "refused", [number]);
+        self.tally.refused[number as usize] += 1;
+        out.line("refused", [number]);
+        out.end();
     }
 
-    pub fn frame(&mut self, payload: &[u8; 20], out: &mut impl Write) {
+    fn frame(&mut self, payload: &[u8; 20], out: &mut Text) {
         let number = refusal(payload);
         if number != 0 {
             return self.refused(number, out);
@@ -103,28 +143,102 @@ impl Tracer {
         let mut gain = self.native.gain.clone();
         let mut parts = Vec::new();
         let mut pcm = Vec::new();
+        let mut lsps = Vec::new();
         for half in &params.halves {
             let new = spectrum.decode(half);
             let (first, second) = lsp::interpolate_pair(&core.previous_lsp, &new);
             let (samples, traces) = core.decode(&new, half, &mut gain);
             pcm.extend(samples);
+            lsps.extend(new);
             for (trace, lpc) in traces.into_iter().zip([first, second]) {
                 parts.push((trace.lag, lpc, trace.innovation));
             }
         }
         let seen = self.native.decode(payload).unwrap();
         assert_eq!(&seen.pcm[..], &pcm[..], "the copy went another way");
-        line(out, "accepted", [self.mark]);
-        line(out, "samples", seen.pcm);
-        line(out, "excitation", seen.excitation);
+        out.line("accepted", [self.mark]);
+        out.end();
+        out.line("samples", seen.pcm);
+        out.end();
+        out.line("excitation", seen.excitation);
+        out.end();
         for (figures, (lag, lpc, innovation)) in seen.gain.iter().zip(&parts) {
-            line(out, "figures", figures.map(f32::to_bits));
-            line(out, "lag", [lag.integer, lag.frac]);
-            line(out, "lpc", lpc);
-            line(out, "innovation", innovation);
+            out.line("figures", figures.map(f32::to_bits));
+            out.line("lag", [lag.integer, lag.frac]);
+            out.line("lpc", lpc);
+            out.line("innovation", innovation);
+            out.end();
+        }
+        // the last coefficient of each step of the recursion decides its residual
+        let steps: Vec<i16> = parts.iter().flat_map(|p| lsp::reflection_coefficients(&p.1)[1..].to_vec()).collect();
+        // the log gain and those before it, and what the next state has
+        let floats: Vec<f32> = seen.gain.iter().flat_map(|g| g[1..6].to_vec()).chain(self.floats()).collect();
+        let codes = params.halves.iter().flat_map(|h| h.code);
+        let met = [
+            lsps.contains(&-32768),
+            steps.iter().any(|k| k.unsigned_abs() == 4096),
+            steps.iter().any(|k| k.unsigned_abs() > 4096),
+            floats.iter().any(|x| x.is_subnormal()),
+            floats.iter().any(|x| x.abs() > 32768.0),
+            codes.flat_map(digits).any(|(whole, cut)| whole != cut as i64),
+            pcm.iter().any(|&x| x == 32767 || x == -32768),
+            pcm.iter().all(|&x| x == 0),
+        ];
+        self.tally.accepted += 1;
+        self.tally.marks[self.mark as usize] += 1;
+        for (count, is) in self.tally.met.iter_mut().zip(met) {
+            *count += is as u64;
         }
         self.mark = (self.mark + 1).min(2);
     }
+
+    /// A line of the recording, and the state after it.
+    fn heard(&mut self, row: &[u8]) -> Text {
+        let mut out = Text::default();
+        match payload(row) {
+            Some(p) => self.frame(&p, &mut out),
+            None => self.refused(9, &mut out),
+        }
+        self.state(&mut out);
+        out
+    }
+
+    /// The state that a recording starts from.
+    fn start(&self) -> Text {
+        let mut out = Text::default();
+        self.state(&mut out);
+        out
+    }
+
+    /// What the next frame must not depend on, spoilt: the 160 excitation samples behind the 154, sharpen_voiced and previous_lag.
+    fn spoil(&mut self, n: usize) {
+        let core = &mut self.native.core;
+        for (k, x) in core.excitation[154..].iter_mut().enumerate() {
+            *x = (31 * n + 577 * k) as i16;
+        }
+        core.sharpen_voiced = -(n as i16);
+        core.previous_lag = (n % 300) as i16;
+    }
+}
+
+/// The lines of a recording; the last newline may be absent.
+fn rows(recording: &[u8]) -> impl Iterator<Item = &[u8]> {
+    let text = recording.strip_suffix(b"\n").unwrap_or(recording);
+    text.split(|&c| c == b'\n').take(if recording.is_empty() { 0 } else { usize::MAX })
+}
+
+/// The first number that differs between two texts of the same parts, in words.
+fn difference(rust: &[u8], ours: &[u8]) -> String {
+    for (n, (x, y)) in rust.split(|&c| c == b'\n').zip(ours.split(|&c| c == b'\n')).enumerate() {
+        let (x, y) = (String::from_utf8_lossy(x), String::from_utf8_lossy(y));
+        for (k, (a, b)) in x.split(' ').zip(y.split(' ')).enumerate() {
+            if a != b {
+                let name = x.split(' ').next().unwrap();
+                return format!("part {} ({name}), number {k}: the Rust {a}, ours {b}", n + 1);
+            }
+        }
+    }
+    "ours ends early".to_string()
 }
 
 impl Native {
@@ -141,29 +255,50 @@ impl Native {
         sum
     }
 
-    /// The recording's lines, traced from reset. With junk, what the next frame must not depend on is spoilt before it:
-    /// the 160 excitation samples behind the 154, sharpen_voiced and previous_lag.
+    /// The recording's lines, traced from reset; with junk in the places that no frame may depend on.
     pub fn trace(recording: &[u8], junk: bool, out: &mut impl Write) {
         let mut tracer = Tracer::new();
-        tracer.state(out);
-        let text = recording.strip_suffix(b"\n").unwrap_or(recording);
-        if recording.is_empty() {
-            return;
-        }
-        for (n, row) in text.split(|&c| c == b'\n').enumerate() {
+        out.write_all(&tracer.start().bytes).unwrap();
+        for (n, row) in rows(recording).enumerate() {
             if junk {
-                let core = &mut tracer.native.core;
-                for (k, x) in core.excitation[154..].iter_mut().enumerate() {
-                    *x = (31 * n + 577 * k) as i16;
+                tracer.spoil(n);
+            }
+            out.write_all(&tracer.heard(row).bytes).unwrap();
+        }
+    }
+
+    /// The same in one line for each line of the recording, 32 bits for each part.
+    pub fn digest(recording: &[u8], out: &mut impl Write) {
+        let mut tracer = Tracer::new();
+        for row in rows(recording) {
+            writeln!(out, "{}", tracer.heard(row).digest()).unwrap();
+        }
+    }
+
+    /// The recording's lines, traced from reset, beside what the program wrote of them: the first difference, if there is one.
+    pub fn compare(recording: &[u8], ours: &mut impl Read) -> Result<Tally, String> {
+        let mut tracer = Tracer::new();
+        let mut same = |n: usize, rust: &[u8]| {
+            let mut theirs = vec![0; rust.len()];
+            let mut got = 0;
+            while got < theirs.len() {
+                match ours.read(&mut theirs[got..]).unwrap() {
+                    0 => break,
+                    more => got += more,
                 }
-                core.sharpen_voiced = -(n as i16);
-                core.previous_lag = (n % 300) as i16;
             }
-            match payload(row) {
-                Some(p) => tracer.frame(&p, out),
-                None => tracer.refused(9, out),
+            if theirs[..got] == *rust {
+                return Ok(());
             }
-            tracer.state(out);
+            Err(format!("line {n}: {}", difference(rust, &theirs[..got])))
+        };
+        same(0, &tracer.start().bytes)?;
+        for (n, row) in rows(recording).enumerate() {
+            same(n + 1, &tracer.heard(row).bytes)?;
+        }
+        match ours.read(&mut [0]).unwrap() {
+            0 => Ok(tracer.tally),
+            _ => Err("after the last line: ours says more".to_string()),
         }
     }
 }

@@ -1,0 +1,107 @@
+//! The program `trace` beside the Rust, on table sets of every kind: a line for each set, the first difference, and the sums.
+use crate::celp::Native;
+use crate::{lent, sets};
+use std::io::BufReader;
+use std::process::{Command, Stdio};
+use std::time::Instant;
+
+/// What the accepted frames of a recording met; the numbers count frames.
+#[derive(Default)]
+pub struct Tally {
+    pub accepted: u64,
+    pub refused: [u64; 10],
+    /// by the mark that they were answered with
+    pub marks: [u64; 3],
+    pub met: [u64; MET.len()],
+}
+
+pub const MET: [&str; 8] = [
+    "an LSP of -32,768",
+    "a residual of 0",
+    "a negative residual",
+    "a subnormal float",
+    "a gain or residual beyond 32,768",
+    "a digit that the wrap made fit",
+    "a sample at an end",
+    "silence",
+];
+
+fn counts(names: &[String], counts: &[u64]) -> String {
+    let some: Vec<String> = names
+        .iter()
+        .zip(counts)
+        .filter(|(_, &n)| n != 0)
+        .map(|(name, n)| format!("{name} {n}"))
+        .collect();
+    some.join(", ")
+}
+
+fn said(tally: &Tally) -> String {
+    let digits: Vec<String> = (0..10).map(|n| n.to_string()).collect();
+    let met: Vec<String> = MET.iter().map(|m| format!("{m}:")).collect();
+    format!(
+        "{} accepted (by mark: {}), {} refused (by number: {}); frames with [{}]",
+        tally.accepted,
+        counts(&digits, &tally.marks),
+        tally.refused.iter().sum::<u64>(),
+        counts(&digits, &tally.refused),
+        counts(&met, &tally.met),
+    )
+}
+
+fn add(sum: &mut [u64], more: &[u64]) {
+    sum.iter_mut().zip(more).for_each(|(s, m)| *s += m);
+}
+
+/// One set and one recording for it; the folder holds its tables, its recording and nothing else.
+fn one(program: &str, folder: &std::path::Path, kind: &str, seed: u64, frames: u64, lines: usize) -> Result<Tally, String> {
+    let tables = sets::set(kind, seed);
+    lent::fill(&tables);
+    let recording = Native::recording(lines, frames);
+    std::fs::write(folder.join("tables.bin"), &tables).unwrap();
+    std::fs::write(folder.join("recording"), &recording).unwrap();
+    let mut child = Command::new(program)
+        .current_dir(folder)
+        .stdin(std::fs::File::open(folder.join("recording")).unwrap())
+        .stdout(Stdio::piped())
+        .spawn()
+        .expect("the program");
+    let answer = Native::compare(&recording, &mut BufReader::with_capacity(1 << 16, child.stdout.take().unwrap()));
+    let _ = child.kill();
+    child.wait().unwrap();
+    answer
+}
+
+/// So many sets of each kind (the bare set is one), so many lines each. Stops at the first difference.
+pub fn all(program: &str, each: u64, lines: usize) -> bool {
+    let folder = std::env::temp_dir().join(format!("compare-{}", std::process::id()));
+    std::fs::create_dir(&folder).unwrap();
+    let began = Instant::now();
+    let mut sum = Tally::default();
+    let mut sets = 0;
+    let mut equal = true;
+    'sets: for (k, kind) in sets::KINDS.into_iter().enumerate() {
+        for seed in 1..=if kind == "bare" { 1 } else { each } {
+            let frames = 100 * (k as u64 + 1) + seed;
+            let name = format!("{kind}, set seed {seed}, frames seed {frames}");
+            match one(program, &folder, kind, seed, frames, lines) {
+                Ok(tally) => {
+                    println!("{name}: {}: equal", said(&tally));
+                    sets += 1;
+                    sum.accepted += tally.accepted;
+                    add(&mut sum.refused, &tally.refused);
+                    add(&mut sum.marks, &tally.marks);
+                    add(&mut sum.met, &tally.met);
+                }
+                Err(place) => {
+                    println!("{name}: DIFFERENT at {place}");
+                    equal = false;
+                    break 'sets;
+                }
+            }
+        }
+    }
+    println!("in all, {sets} sets, {} s: {}: {}", began.elapsed().as_secs(), said(&sum), if equal { "equal" } else { "DIFFERENT" });
+    std::fs::remove_dir_all(&folder).unwrap();
+    equal
+}
