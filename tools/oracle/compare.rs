@@ -36,7 +36,7 @@ fn counts(names: &[String], counts: &[u64]) -> String {
     some.join(", ")
 }
 
-fn said(tally: &Tally) -> String {
+pub fn said(tally: &Tally) -> String {
     let digits: Vec<String> = (0..10).map(|n| n.to_string()).collect();
     let met: Vec<String> = MET.iter().map(|m| format!("{m}:")).collect();
     format!(
@@ -94,7 +94,7 @@ pub fn all(program: &str, each: u64, lines: usize) -> bool {
                     add(&mut sum.met, &tally.met);
                 }
                 Err(place) => {
-                    println!("{name}: DIFFERENT at {place}");
+                    println!("{name}: DIFFERENT, recording {place}");
                     equal = false;
                     break 'sets;
                 }

@@ -5,7 +5,8 @@
 //! oracle timed TABLES                   the recording on standard input decoded from reset, and a sum over its samples
 //! oracle trace TABLES [junk]            every figure of every frame of the recording on standard input, from reset; with junk
 //!                                       in the places that no frame may depend on
-//! oracle digest TABLES                  the same in a line for each line of the recording: 32 bits for each part
+//! oracle digest TABLES                  the same in a line for each line of the recording, 32 bits for each part; what was met goes
+//!                                       to standard error
 //! oracle compare PROGRAM SETS LINES     the program `trace` on sets of every kind, every figure compared (compare.rs)
 //! oracle frames COUNT [SEED]            that many random frames as lines of hexadecimal, damaged ones among them
 //! oracle recording TABLES COUNT [SEED]  that many lines, most of them frames that the set accepts (recordings.rs)
@@ -81,7 +82,10 @@ fn main() {
             io::stdin().lock().read_to_end(&mut recording).unwrap();
             match how {
                 "trace" => Native::trace(&recording, words.get(2).is_some_and(|w| w == "junk"), &mut out),
-                "digest" => Native::digest(&recording, &mut out),
+                "digest" => {
+                    let name = std::path::Path::new(&words[1]).file_name().unwrap().to_string_lossy().to_string();
+                    eprintln!("{name}: {}", compare::said(&Native::digest(&name, &recording, &mut out)));
+                }
                 _ => writeln!(out, "{}", Native::timed(&recording)).unwrap(),
             }
         }

@@ -234,7 +234,7 @@ fn difference(rust: &[u8], ours: &[u8]) -> String {
         for (k, (a, b)) in x.split(' ').zip(y.split(' ')).enumerate() {
             if a != b {
                 let name = x.split(' ').next().unwrap();
-                return format!("part {} ({name}), number {k}: the Rust {a}, ours {b}", n + 1);
+                return format!("its text's line {} ({name}), number {k}: the Rust {a}, ours {b}", n + 1);
             }
         }
     }
@@ -267,12 +267,14 @@ impl Native {
         }
     }
 
-    /// The same in one line for each line of the recording, 32 bits for each part.
-    pub fn digest(recording: &[u8], out: &mut impl Write) {
+    /// The same under a heading, in one line for each line of the recording, 32 bits for each part.
+    pub fn digest(name: &str, recording: &[u8], out: &mut impl Write) -> Tally {
         let mut tracer = Tracer::new();
+        writeln!(out, "digest {name} {:08x}", fnv(&tracer.start().bytes)).unwrap();
         for row in rows(recording) {
             writeln!(out, "{}", tracer.heard(row).digest()).unwrap();
         }
+        tracer.tally
     }
 
     /// The recording's lines, traced from reset, beside what the program wrote of them: the first difference, if there is one.
@@ -298,7 +300,7 @@ impl Native {
         }
         match ours.read(&mut [0]).unwrap() {
             0 => Ok(tracer.tally),
-            _ => Err("after the last line: ours says more".to_string()),
+            _ => Err("over: ours says more".to_string()),
         }
     }
 }

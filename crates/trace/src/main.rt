@@ -1,139 +1,242 @@
 // Prints every figure of every frame of a recording, a line a part: numbers in decimal, floats by their bits.
 // tables.bin lies beside it, the recording comes on standard input, and it starts at reset.
+// A line `digest NAME` begins another recording, with the table file of that name, and from there on 32 bits stand for each part.
 mod say;
 
 use celp::Answer;
 use celp::State;
 use frame::Subframe;
 use libc::STDIN_FILENO;
+use libc::STDOUT_FILENO;
 use recording::Line;
 use say::end;
 use say::floats;
-use say::label;
 use say::long_numbers;
 use say::number;
 use say::numbers;
+use say::part;
+use say::text;
 
-fn state_lines(s: State) {
+fn wide(x: u8) -> u64 {
+    x as u64
+}
+
+fn core_lines(out: &mut [u8; 4096], s: State) -> usize {
     let lsp = s.lsp;
-    label(b"lsp");
-    numbers(&lsp);
     let excitation = s.excitation;
-    label(b"past");
-    numbers(&excitation);
     let memory = s.memory;
-    label(b"memory");
-    numbers(&memory);
-    label(b"sharpen_fixed");
-    numbers(&[s.sharpen_fixed]);
-    label(b"last_half_lag");
-    numbers(&[s.last_half_lag]);
+    let a = numbers(out, 0, b"lsp", &lsp);
+    let b = numbers(out, a, b"past", &excitation);
+    let c = numbers(out, b, b"memory", &memory);
+    let d = numbers(out, c, b"sharpen_fixed", &[s.sharpen_fixed]);
+    numbers(out, d, b"last_half_lag", &[s.last_half_lag])
+}
+
+fn filter_lines(out: &mut [u8; 4096], at: usize, fir: [i16; 6], iir: [i32; 6]) -> usize {
+    let a = numbers(out, at, b"fir", &fir);
+    long_numbers(out, a, b"iir", &iir)
+}
+
+fn history_lines(out: &mut [u8; 4096], at: usize, residuals: [f32; 30], gains: [f32; 4]) -> usize {
+    let a = floats(out, at, b"residuals", &residuals);
+    floats(out, a, b"gains", &gains)
+}
+
+fn mark_line(out: &mut [u8; 4096], at: usize, mark: u8) -> usize {
+    let a = text(out, at, b"mark");
+    let b = number(out, a, wide(mark));
+    end(out, b)
+}
+
+fn state_part(s: State, digest: bool) {
+    let mut out = io::buffer();
     let fir = s.fir;
-    label(b"fir");
-    numbers(&fir);
     let iir = s.iir;
-    label(b"iir");
-    long_numbers(&iir);
     let residuals = s.residuals;
     let gains = s.gains;
-    history_lines(residuals, gains);
-    label(b"mark");
-    number(s.mark);
-    end();
+    let a = core_lines(&mut out, s);
+    let b = filter_lines(&mut out, a, fir, iir);
+    let c = history_lines(&mut out, b, residuals, gains);
+    let d = mark_line(&mut out, c, s.mark);
+    part(&out, d, digest);
 }
 
-fn history_lines(residuals: [f32; 30], gains: [f32; 4]) {
-    label(b"residuals");
-    floats(&residuals);
-    label(b"gains");
-    floats(&gains);
+// The state is the last part of what a line of the recording gave.
+fn last_part(s: State, digest: bool) {
+    state_part(s, digest);
+    if digest {
+        io::write_all(STDOUT_FILENO, b"\n");
+    }
 }
 
-fn refused(n: u8) {
-    label(b"refused");
-    number(n);
-    end();
+// What is said first is never a digest; a part that is one stands in the same line.
+fn head(name: &[u8], n: u8, digest: bool) {
+    io::write_all(STDOUT_FILENO, name);
+    io::print_decimal(STDOUT_FILENO, wide(n));
+    if !digest {
+        io::write_all(STDOUT_FILENO, b"\n");
+    }
 }
 
-fn subframe_lines(s: Subframe) {
+fn refused(n: u8, digest: bool) {
+    head(b"refused ", n, digest);
+}
+
+fn subframe_part(s: Subframe, digest: bool) {
+    let mut out = io::buffer();
     let figures = s.figures;
-    label(b"figures");
-    floats(&figures);
-    label(b"lag");
-    numbers(&[s.lag, s.frac]);
     let lpc = s.lpc;
-    label(b"lpc");
-    numbers(&lpc);
     let innovation = s.innovation;
-    label(b"innovation");
-    numbers(&innovation);
+    let a = floats(&mut out, 0, b"figures", &figures);
+    let b = numbers(&mut out, a, b"lag", &[s.lag, s.frac]);
+    let c = numbers(&mut out, b, b"lpc", &lpc);
+    let d = numbers(&mut out, c, b"innovation", &innovation);
+    part(&out, d, digest);
 }
 
-fn answer_lines(a: Answer, samples: &[i16]) {
+fn numbers_part(name: &[u8], w: &[i16], digest: bool) {
+    let mut out = io::buffer();
+    let n = numbers(&mut out, 0, name, w);
+    part(&out, n, digest);
+}
+
+fn answer_parts(a: Answer, samples: &[i16], digest: bool) {
     if a.number != 0 {
-        refused(a.number);
+        refused(a.number, digest);
         return;
     }
-    label(b"accepted");
-    number(a.mark);
-    end();
-    label(b"samples");
-    numbers(samples);
+    head(b"accepted ", a.mark, digest);
+    numbers_part(b"samples", samples, digest);
     let excitation = a.excitation;
-    label(b"excitation");
-    numbers(&excitation);
+    numbers_part(b"excitation", &excitation, digest);
     let subframes = a.subframes;
-    subframe_lines(subframes[0]);
-    subframe_lines(subframes[1]);
-    subframe_lines(subframes[2]);
-    subframe_lines(subframes[3]);
+    subframe_part(subframes[0], digest);
+    subframe_part(subframes[1], digest);
+    subframe_part(subframes[2], digest);
+    subframe_part(subframes[3], digest);
 }
 
 // A line of the recording is over: the state after it.
-fn heard(words: &[i16], bytes: &[u8], state: State, line: Line) -> State {
+fn heard(words: &[i16], bytes: &[u8], state: State, line: Line, digest: bool) -> State {
     let text = line.text;
     if line.n == 40 {
         if recording::all_digits(text) {
             let payload = recording::payload(text);
             let mut samples = [0i16; 320];
             let a = celp::decode(words, bytes, state, &payload, &mut samples);
-            answer_lines(a, &samples);
+            answer_parts(a, &samples, digest);
             let next = a.state;
-            state_lines(next);
+            last_part(next, digest);
             return next;
         }
     }
-    refused(9);
+    refused(9, digest);
     let missed = celp::missed_frame(state);
     let next = missed.state;
-    state_lines(next);
+    last_part(next, digest);
     next
+}
+
+fn put_bytes(file: &[u8; 15835], bytes: &mut [u8; 3908]) {
+    let mut i = 0;
+    while i < 3908 {
+        bytes[i] = file[11926 + i];
+        i += 1;
+    }
+}
+
+// The table file's words and bytes, and its number. A byte more than it should have tells one that is too long.
+fn read_tables(name: &[u8], words: &mut [i16; 5963], bytes: &mut [u8; 3908]) -> u8 {
+    let fd = os::open_read(name);
+    if fd < 0 {
+        return 1;
+    }
+    let mut file = [0u8; 15835];
+    let n = io::read_full(fd, &mut file);
+    libc::close(fd);
+    put_bytes(&file, bytes);
+    recording::check_file(&file[..n], words)
 }
 
 // What is carried from byte to byte.
 struct Carried {
     state: State,
     line: Line,
+    digest: bool,
 }
 
-fn taken(words: &[i16], bytes: &[u8], c: Carried, b: u8) -> Carried {
+fn begins(s: &[u8], with: &[u8]) -> bool {
+    if s.len() < with.len() {
+        return false;
+    }
+    let mut i = 0;
+    while i < with.len() {
+        if s[i] != with[i] {
+            return false;
+        }
+        i += 1;
+    }
+    true
+}
+
+// The number of the table file that a heading names behind its first seven bytes.
+fn read_named(heading: &[u8], words: &mut [i16; 5963], bytes: &mut [u8; 3908]) -> u8 {
+    if heading.len() < 7 {
+        return 1;
+    }
+    read_tables(&heading[7..], words, bytes)
+}
+
+// Another recording, from reset; the first n bytes of the text are its heading.
+fn headed(text: &[u8], n: usize, words: &mut [i16; 5963], bytes: &mut [u8; 3908]) -> Carried {
+    if n <= text.len() {
+        io::write_all(STDOUT_FILENO, &text[..n]);
+        let number = read_named(&text[..n], words, bytes);
+        if number != 0 {
+            head(b" refused ", number, true);
+        }
+    }
+    let start = celp::reset(words, bytes);
+    let first = start.state;
+    last_part(first, true);
+    Carried {
+        state: first,
+        line: recording::empty(),
+        digest: true,
+    }
+}
+
+fn ended(words: &mut [i16; 5963], bytes: &mut [u8; 3908], c: Carried) -> Carried {
+    let line = c.line;
+    let text = line.text;
+    if begins(&text, b"digest ") {
+        return headed(&text, line.n, words, bytes);
+    }
+    let digest = c.digest;
+    let state = c.state;
+    let next = heard(words, bytes, state, line, digest);
+    Carried {
+        state: next,
+        line: recording::empty(),
+        digest,
+    }
+}
+
+fn taken(words: &mut [i16; 5963], bytes: &mut [u8; 3908], c: Carried, b: u8) -> Carried {
+    if b == b'\n' {
+        return ended(words, bytes, c);
+    }
     let state = c.state;
     let line = c.line;
-    if b == b'\n' {
-        let next = heard(words, bytes, state, line);
-        return Carried {
-            state: next,
-            line: recording::empty(),
-        };
-    }
     let longer = recording::push(line, b);
     Carried {
         state,
         line: longer,
+        digest: c.digest,
     }
 }
 
-fn taken_all(words: &[i16], bytes: &[u8], c: Carried, s: &[u8]) -> Carried {
+fn taken_all(words: &mut [i16; 5963], bytes: &mut [u8; 3908], c: Carried, s: &[u8]) -> Carried {
     let mut k = c;
     let mut i = 0;
     while i < s.len() {
@@ -148,7 +251,7 @@ struct Turn {
     more: bool,
 }
 
-fn read_some(words: &[i16], bytes: &[u8], c: Carried) -> Turn {
+fn read_some(words: &mut [i16; 5963], bytes: &mut [u8; 3908], c: Carried) -> Turn {
     let mut buf = io::buffer();
     let got = libc::read(STDIN_FILENO, &mut buf);
     if got <= 0 {
@@ -166,13 +269,14 @@ fn read_some(words: &[i16], bytes: &[u8], c: Carried) -> Turn {
 }
 
 // The recording, from reset; a last line without its end counts too.
-fn run(words: &[i16], bytes: &[u8]) {
+fn run(words: &mut [i16; 5963], bytes: &mut [u8; 3908]) {
     let start = celp::reset(words, bytes);
     let first = start.state;
-    state_lines(first);
+    last_part(first, false);
     let mut c = Carried {
         state: first,
         line: recording::empty(),
+        digest: false,
     };
     let mut turns = u64::MAX;
     while turns > 0 {
@@ -185,46 +289,18 @@ fn run(words: &[i16], bytes: &[u8]) {
         }
     }
     let line = c.line;
-    let state = c.state;
     if line.n != 0 {
-        heard(words, bytes, state, line);
+        ended(words, bytes, c);
     }
-}
-
-// How many bytes the table file has, at most one more than it should.
-fn read_tables(out: &mut [u8]) -> usize {
-    let fd = os::open_read(b"tables.bin");
-    if fd < 0 {
-        return 0;
-    }
-    let n = io::read_full(fd, out);
-    libc::close(fd);
-    n
-}
-
-// The file's n bytes as a table set, and the recording with it.
-fn start(file: &[u8], n: usize, words: &mut [i16]) {
-    if words.len() != 5963 {
-        return;
-    }
-    if n != 15834 {
-        refused(1);
-        return;
-    }
-    if file.len() < 15834 {
-        return;
-    }
-    let number = recording::check_file(&file[..15834], words);
-    if number != 0 {
-        refused(number);
-        return;
-    }
-    run(words, &file[11926..15834]);
 }
 
 fn main() {
-    let mut room = [0u8; 15835];
     let mut words = [0i16; 5963];
-    let n = read_tables(&mut room);
-    start(&room, n, &mut words);
+    let mut bytes = [0u8; 3908];
+    let number = read_tables(b"tables.bin", &mut words, &mut bytes);
+    if number != 0 {
+        refused(number, false);
+        return;
+    }
+    run(&mut words, &mut bytes);
 }

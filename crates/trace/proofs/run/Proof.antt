@@ -1,20 +1,18 @@
-use Prim.Native.Nat.{_≤_, _<_, _-_}
-use lib.ListN.{length}
 use borrow.Author.Needs.{needs}
 use Rattle.trace.proofs.run.Statement.{statement}
 use Rattle.trace.proofs.run.Tie as tie
 
 abbrev Inv-loop : tie.InvT-loop
-Inv-loop words bytes c₀ turns₀ c turns = Unit {0}
+Inv-loop words₀ bytes₀ c₀ turns₀ words bytes c turns = Unit {0}
 
 abbrev μ-loop : tie.MeasureT-loop
-μ-loop words bytes c₀ turns₀ c turns = turns
+μ-loop words₀ bytes₀ c₀ turns₀ words bytes c turns = turns
 
 reset-requires : tie.Need-reset-requires Inv-loop μ-loop
 reset-requires c κs = search needs
 
-state-lines-requires : tie.Need-state-lines-requires Inv-loop μ-loop
-state-lines-requires c κs = search needs
+last-part-requires : tie.Need-last-part-requires Inv-loop μ-loop
+last-part-requires c κs = search needs
 
 empty-requires : tie.Need-empty-requires Inv-loop μ-loop
 empty-requires c κs = search needs
@@ -40,8 +38,8 @@ loop-less-2 c = search needs
 loop-again-2 : tie.Need-loop-again-2 Inv-loop μ-loop
 loop-again-2 c = search needs
 
-heard-requires : tie.Need-heard-requires Inv-loop μ-loop
-heard-requires c κs = search needs
+ended-requires : tie.Need-ended-requires Inv-loop μ-loop
+ended-requires c κs = search needs
 
 returns : tie.Need-returns Inv-loop μ-loop
 returns c = search needs
@@ -56,7 +54,7 @@ run-spec =
     Inv-loop
     μ-loop
     reset-requires
-    state-lines-requires
+    last-part-requires
     empty-requires
     loop-holds
     read-some-requires
@@ -65,6 +63,6 @@ run-spec =
     loop-again
     loop-less-2
     loop-again-2
-    heard-requires
+    ended-requires
     returns
     returns-2)

@@ -5,10 +5,10 @@ use Rattle.trace.proofs.taken_all.Statement.{statement}
 use Rattle.trace.proofs.taken_all.Tie as tie
 
 abbrev Inv-loop : tie.InvT-loop
-Inv-loop words bytes s k₀ i₀ k i = i ≤ length s
+Inv-loop words₀ bytes₀ s k₀ i₀ words bytes k i = i ≤ length s
 
 abbrev μ-loop : tie.MeasureT-loop
-μ-loop words bytes s k₀ i₀ k i = length s - i
+μ-loop words₀ bytes₀ s k₀ i₀ words bytes k i = length s - i
 
 loop-holds : tie.Need-loop-holds Inv-loop μ-loop
 loop-holds c = search needs

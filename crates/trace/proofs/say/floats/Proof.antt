@@ -5,16 +5,16 @@ use Rattle.trace.proofs.say.floats.Statement.{statement}
 use Rattle.trace.proofs.say.floats.Tie as tie
 
 abbrev Inv-loop : tie.InvT-loop
-Inv-loop w i₀ i = i ≤ length w
+Inv-loop out₀ at name w n₀ i₀ out n i = i ≤ length w
 
 abbrev μ-loop : tie.MeasureT-loop
-μ-loop w i₀ i = length w - i
+μ-loop out₀ at name w n₀ i₀ out n i = length w - i
+
+text-requires : tie.Need-text-requires Inv-loop μ-loop
+text-requires c κs = search needs
 
 loop-holds : tie.Need-loop-holds Inv-loop μ-loop
 loop-holds c = search needs
-
-blank-requires : tie.Need-blank-requires Inv-loop μ-loop
-blank-requires c κs = search needs
 
 mul-bits : tie.Need-mul-bits Inv-loop μ-loop
 mul-bits c = search needs
@@ -28,8 +28,8 @@ bits-requires c κs = search needs
 wide-bits-requires : tie.Need-wide-bits-requires Inv-loop μ-loop
 wide-bits-requires c κs = search needs
 
-print-decimal-requires : tie.Need-print-decimal-requires Inv-loop μ-loop
-print-decimal-requires c κs = search needs
+number-requires : tie.Need-number-requires Inv-loop μ-loop
+number-requires c κs = search needs
 
 add-i : tie.Need-add-i Inv-loop μ-loop
 add-i c = search needs
@@ -52,13 +52,13 @@ floats-spec =
     (tie.spec
     Inv-loop
     μ-loop
+    text-requires
     loop-holds
-    blank-requires
     mul-bits
     shared-slice-read-bits
     bits-requires
     wide-bits-requires
-    print-decimal-requires
+    number-requires
     add-i
     loop-less
     loop-again
