@@ -16,10 +16,7 @@ use say::number;
 use say::numbers;
 use say::part;
 use say::text;
-
-fn wide(x: u8) -> u64 {
-    x as u64
-}
+use say::wide;
 
 fn core_lines(out: &mut [u8; 4096], s: State) -> usize {
     let lsp = s.lsp;
@@ -42,12 +39,7 @@ fn history_lines(out: &mut [u8; 4096], at: usize, residuals: [f32; 30], gains: [
     floats(out, a, b"gains", &gains)
 }
 
-fn mark_line(out: &mut [u8; 4096], at: usize, mark: u8) -> usize {
-    let a = text(out, at, b"mark");
-    let b = number(out, a, wide(mark));
-    end(out, b)
-}
-
+// The state is the last part of what a line of the recording gave.
 fn state_part(s: State, digest: bool) {
     let mut out = io::buffer();
     let fir = s.fir;
@@ -57,13 +49,10 @@ fn state_part(s: State, digest: bool) {
     let a = core_lines(&mut out, s);
     let b = filter_lines(&mut out, a, fir, iir);
     let c = history_lines(&mut out, b, residuals, gains);
-    let d = mark_line(&mut out, c, s.mark);
-    part(&out, d, digest);
-}
-
-// The state is the last part of what a line of the recording gave.
-fn last_part(s: State, digest: bool) {
-    state_part(s, digest);
+    let d = text(&mut out, c, b"mark");
+    let e = number(&mut out, d, wide(s.mark));
+    let f = end(&mut out, e);
+    part(&out, f, digest);
     if digest {
         io::write_all(STDOUT_FILENO, b"\n");
     }
@@ -76,10 +65,6 @@ fn head(name: &[u8], n: u8, digest: bool) {
     if !digest {
         io::write_all(STDOUT_FILENO, b"\n");
     }
-}
-
-fn refused(n: u8, digest: bool) {
-    head(b"refused ", n, digest);
 }
 
 fn subframe_part(s: Subframe, digest: bool) {
@@ -102,7 +87,7 @@ fn numbers_part(name: &[u8], w: &[i16], digest: bool) {
 
 fn answer_parts(a: Answer, samples: &[i16], digest: bool) {
     if a.number != 0 {
-        refused(a.number, digest);
+        head(b"refused ", a.number, digest);
         return;
     }
     head(b"accepted ", a.mark, digest);
@@ -126,14 +111,14 @@ fn heard(words: &[i16], bytes: &[u8], state: State, line: Line, digest: bool) ->
             let a = celp::decode(words, bytes, state, &payload, &mut samples);
             answer_parts(a, &samples, digest);
             let next = a.state;
-            last_part(next, digest);
+            state_part(next, digest);
             return next;
         }
     }
-    refused(9, digest);
+    head(b"refused ", 9, digest);
     let missed = celp::missed_frame(state);
     let next = missed.state;
-    last_part(next, digest);
+    state_part(next, digest);
     next
 }
 
@@ -158,13 +143,6 @@ fn read_tables(name: &[u8], words: &mut [i16; 5963], bytes: &mut [u8; 3908]) -> 
     recording::check_file(&file[..n], words)
 }
 
-// What is carried from byte to byte.
-struct Carried {
-    state: State,
-    line: Line,
-    digest: bool,
-}
-
 fn begins(s: &[u8], with: &[u8]) -> bool {
     if s.len() < with.len() {
         return false;
@@ -179,71 +157,66 @@ fn begins(s: &[u8], with: &[u8]) -> bool {
     true
 }
 
-// The number of the table file that a heading names behind its first seven bytes.
-fn read_named(heading: &[u8], words: &mut [i16; 5963], bytes: &mut [u8; 3908]) -> u8 {
-    if heading.len() < 7 {
-        return 1;
-    }
-    read_tables(&heading[7..], words, bytes)
+fn is_heading(line: Line) -> bool {
+    let text = line.text;
+    begins(&text, b"digest ")
 }
 
-// Another recording, from reset; the first n bytes of the text are its heading.
-fn headed(text: &[u8], n: usize, words: &mut [i16; 5963], bytes: &mut [u8; 3908]) -> Carried {
+// The table file that a heading, the first n bytes of the text, names behind its seventh.
+fn read_named(text: &[u8], n: usize, words: &mut [i16; 5963], bytes: &mut [u8; 3908]) {
     if n <= text.len() {
         io::write_all(STDOUT_FILENO, &text[..n]);
-        let number = read_named(&text[..n], words, bytes);
-        if number != 0 {
-            head(b" refused ", number, true);
+        if 7 <= n {
+            let number = read_tables(&text[7..n], words, bytes);
+            if number != 0 {
+                head(b" refused ", number, true);
+            }
         }
     }
+}
+
+// Another recording begins, from reset.
+fn headed(line: Line, words: &mut [i16; 5963], bytes: &mut [u8; 3908]) -> State {
+    let text = line.text;
+    read_named(&text, line.n, words, bytes);
     let start = celp::reset(words, bytes);
     let first = start.state;
-    last_part(first, true);
-    Carried {
-        state: first,
-        line: recording::empty(),
-        digest: true,
-    }
+    state_part(first, true);
+    first
 }
 
-fn ended(words: &mut [i16; 5963], bytes: &mut [u8; 3908], c: Carried) -> Carried {
-    let line = c.line;
-    let text = line.text;
-    if begins(&text, b"digest ") {
-        return headed(&text, line.n, words, bytes);
-    }
-    let digest = c.digest;
-    let state = c.state;
-    let next = heard(words, bytes, state, line, digest);
-    Carried {
-        state: next,
-        line: recording::empty(),
-        digest,
-    }
+// What is carried from byte to byte.
+struct Carried {
+    state: State,
+    line: Line,
+    digest: bool,
 }
 
-fn taken(words: &mut [i16; 5963], bytes: &mut [u8; 3908], c: Carried, b: u8) -> Carried {
-    if b == b'\n' {
-        return ended(words, bytes, c);
-    }
-    let state = c.state;
-    let line = c.line;
-    let longer = recording::push(line, b);
-    Carried {
-        state,
-        line: longer,
-        digest: c.digest,
-    }
-}
-
-fn taken_all(words: &mut [i16; 5963], bytes: &mut [u8; 3908], c: Carried, s: &[u8]) -> Carried {
-    let mut k = c;
+fn taken(words: &mut [i16; 5963], bytes: &mut [u8; 3908], c: Carried, s: &[u8]) -> Carried {
+    let mut state = c.state;
+    let mut line = c.line;
+    let mut digest = c.digest;
     let mut i = 0;
     while i < s.len() {
-        k = taken(words, bytes, k, s[i]);
+        let b = s[i];
         i += 1;
+        if b == b'\n' {
+            if is_heading(line) {
+                state = headed(line, words, bytes);
+                digest = true;
+            } else {
+                state = heard(words, bytes, state, line, digest);
+            }
+            line = recording::empty();
+        } else {
+            line = recording::push(line, b);
+        }
     }
-    k
+    Carried {
+        state,
+        line,
+        digest,
+    }
 }
 
 struct Turn {
@@ -261,7 +234,7 @@ fn read_some(words: &mut [i16; 5963], bytes: &mut [u8; 3908], c: Carried) -> Tur
         };
     }
     let n = io::count(got, &buf);
-    let next = taken_all(words, bytes, c, &buf[..n]);
+    let next = taken(words, bytes, c, &buf[..n]);
     Turn {
         carried: next,
         more: true,
@@ -272,7 +245,7 @@ fn read_some(words: &mut [i16; 5963], bytes: &mut [u8; 3908], c: Carried) -> Tur
 fn run(words: &mut [i16; 5963], bytes: &mut [u8; 3908]) {
     let start = celp::reset(words, bytes);
     let first = start.state;
-    last_part(first, false);
+    state_part(first, false);
     let mut c = Carried {
         state: first,
         line: recording::empty(),
@@ -289,8 +262,9 @@ fn run(words: &mut [i16; 5963], bytes: &mut [u8; 3908]) {
         }
     }
     let line = c.line;
+    let state = c.state;
     if line.n != 0 {
-        ended(words, bytes, c);
+        heard(words, bytes, state, line, c.digest);
     }
 }
 
@@ -299,7 +273,7 @@ fn main() {
     let mut bytes = [0u8; 3908];
     let number = read_tables(b"tables.bin", &mut words, &mut bytes);
     if number != 0 {
-        refused(number, false);
+        head(b"refused ", number, false);
         return;
     }
     run(&mut words, &mut bytes);

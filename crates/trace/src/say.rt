@@ -94,7 +94,7 @@ pub fn floats(out: &mut [u8; 4096], at: usize, name: &[u8], w: &[f32]) -> usize 
     end(out, n)
 }
 
-fn wide(b: u8) -> u64 {
+pub fn wide(b: u8) -> u64 {
     b as u64
 }
 

@@ -11,8 +11,8 @@ abbrev μ-loop : tie.MeasureT-loop
 reset-requires : tie.Need-reset-requires Inv-loop μ-loop
 reset-requires c κs = search needs
 
-last-part-requires : tie.Need-last-part-requires Inv-loop μ-loop
-last-part-requires c κs = search needs
+state-part-requires : tie.Need-state-part-requires Inv-loop μ-loop
+state-part-requires c κs = search needs
 
 empty-requires : tie.Need-empty-requires Inv-loop μ-loop
 empty-requires c κs = search needs
@@ -38,8 +38,8 @@ loop-less-2 c = search needs
 loop-again-2 : tie.Need-loop-again-2 Inv-loop μ-loop
 loop-again-2 c = search needs
 
-ended-requires : tie.Need-ended-requires Inv-loop μ-loop
-ended-requires c κs = search needs
+heard-requires : tie.Need-heard-requires Inv-loop μ-loop
+heard-requires c κs = search needs
 
 returns : tie.Need-returns Inv-loop μ-loop
 returns c = search needs
@@ -54,7 +54,7 @@ run-spec =
     Inv-loop
     μ-loop
     reset-requires
-    last-part-requires
+    state-part-requires
     empty-requires
     loop-holds
     read-some-requires
@@ -63,6 +63,6 @@ run-spec =
     loop-again
     loop-less-2
     loop-again-2
-    ended-requires
+    heard-requires
     returns
     returns-2)
