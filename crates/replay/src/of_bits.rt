@@ -1,11 +1,11 @@
 // The answers of bits: a payload; out come its number and fields, and where it is accepted the payload that the packer makes of them.
-use crate::end_line;
-use crate::say;
-use crate::say_numbers;
 use bits::FrameParams;
 use bits::HalfParams;
 use bits::Unpacked;
 use libc::STDOUT_FILENO;
+use questions::end_line;
+use questions::say;
+use questions::say_numbers;
 ghost use mathlib.Core.Path.{_≡_};
 ghost use lib.ListN.{length};
 

@@ -1,12 +1,9 @@
 // The answers of fixed: the operation's number, then its arguments.
-use crate::say;
+use questions::say;
+use questions::wide_word;
 
 fn word(x: i64) -> i16 {
     fixed::low(x)
-}
-
-fn wide(x: i16) -> i64 {
-    x as i64
 }
 
 fn wide32(x: i32) -> i64 {
@@ -32,8 +29,8 @@ pub fn answer(n: [i64; 128]) {
     match n[1] {
         0 => one(fixed::acc(v)),
         1 => one(fixed::sat(v)),
-        2 => one(wide(fixed::hi(v))),
-        3 => one(wide(fixed::low(v))),
+        2 => one(wide_word(fixed::hi(v))),
+        3 => one(wide_word(fixed::low(v))),
         4 => one(fixed::mul(x, y)),
         5 => one(fixed::mul_us(x, y)),
         6 => one(fixed::mul32x16(v, y)),

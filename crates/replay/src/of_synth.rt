@@ -1,7 +1,7 @@
 // The answers of synth: eleven coefficients, ten of memory, the inputs; out come the outputs and the memory.
-use crate::end_line;
-use crate::say_words;
-use crate::words;
+use questions::end_line;
+use questions::say_words;
+use questions::words;
 
 fn filtered(a: &[i16], input: &[i16], output: &mut [i16], mem: &mut [i16]) {
     if a.len() != 11 {

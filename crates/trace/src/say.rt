@@ -1,6 +1,8 @@
 // A part of what is printed, put together in a room: lines of a name and numbers with a blank before each.
 // Each function puts something at a place and answers the place behind it. The longest part, 320 samples, has 2,249 bytes at most.
 use libc::STDOUT_FILENO;
+use questions::size;
+use questions::wide_word;
 
 fn put(out: &mut [u8; 4096], at: usize, b: u8) -> usize {
     if at < 4096 {
@@ -31,12 +33,6 @@ pub fn number(out: &mut [u8; 4096], at: usize, n: u64) -> usize {
     text(out, start, &digits[..k])
 }
 
-// How far x is from 0.
-fn size(x: i64) -> u64 {
-    let m = fixed::magnitude(x);
-    if x < 0 { m + 1 } else { m }
-}
-
 fn signed(out: &mut [u8; 4096], at: usize, x: i64) -> usize {
     if 0 <= x {
         return number(out, at, size(x));
@@ -45,10 +41,6 @@ fn signed(out: &mut [u8; 4096], at: usize, x: i64) -> usize {
     let k = io::decimal(size(x), &mut digits);
     let start = text(out, at, b" -");
     text(out, start, &digits[..k])
-}
-
-fn wide_word(x: i16) -> i64 {
-    x as i64
 }
 
 fn wide_number(x: i32) -> i64 {

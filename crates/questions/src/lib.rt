@@ -1,0 +1,182 @@
+// A question is a line of numbers in decimal, and so is its answer: what the replaying programs read and write.
+use libc::STDOUT_FILENO;
+ghost use mathlib.Core.Path.{_≡_};
+ghost use Prim.Native.Nat.{_<_, _≤_, _+_};
+ghost use lib.IntN.{natAbs};
+ghost use lib.ListN.{length};
+ghost use Rattle.sequence.specs.Table.{table};
+ghost use Rattle.questions.specs.Questions as Questions;
+
+// The numbers of a line, 128 at most, and where the next line begins.
+pub struct Question {
+    pub count: usize,
+    pub numbers: [i64; 128],
+    pub next: usize,
+}
+
+// A line that is being read: the numbers that are complete, and the digits of the next.
+pub struct Reading {
+    pub count: usize,
+    pub numbers: [i64; 128],
+    pub digits: u64,
+    pub negative: bool,
+}
+
+// A number of at most 63 bits by its digits; one that is wider is the smallest or the largest.
+fn signed(digits: u64, negative: bool) -> i64
+    ensures { λ r. ⌜ r ≡ Questions.signed digits negative ⌝ }
+{
+    if digits < 9223372036854775808 {
+        let n = digits as i64;
+        return if negative { 0 - n } else { n };
+    }
+    if negative { i64::MIN } else { i64::MAX }
+}
+
+fn wide(x: u8) -> u64
+    ensures { λ r. ⌜ r ≡ x ⌝ }
+{
+    x as u64
+}
+
+// The number that was being read is complete; behind the 128th there is no place.
+fn ended(r: Reading) -> Reading
+    ensures { λ s. ⌜ s ≡ Questions.ended r ⌝ }
+{
+    let mut s = r;
+    s.digits = 0;
+    s.negative = false;
+    let count = r.count;
+    if count < 128 {
+        s.numbers[count] = signed(r.digits, r.negative);
+        s.count = count + 1;
+        return s;
+    }
+    s
+}
+
+// A byte more: one from the digit 0 on goes on with the number, a minus is kept, anything else ends it.
+fn step(r: Reading, b: u8) -> Reading
+    ensures { λ s. ⌜ s ≡ Questions.step r b ⌝ }
+{
+    let mut s = r;
+    if b'0' <= b {
+        s.digits = r.digits % 1000000000000000000 * 10 + wide(b) % 16;
+        return s;
+    }
+    if b == b'-' {
+        s.negative = true;
+        return s;
+    }
+    ended(r)
+}
+
+fn asked(r: Reading, next: usize) -> Question
+    ensures { λ q. ⌜ q ≡ Questions.asked r next ⌝ }
+{
+    let numbers = r.numbers;
+    Question {
+        count: r.count,
+        numbers,
+        next,
+    }
+}
+
+// The line of s that begins at from; each of its numbers ends with a blank or with the line.
+pub fn line(s: &[u8], from: usize) -> Question
+    requires { ⌜ from < length (now s) ⌝ }
+    ensures { λ r. ⌜ r ≡ Questions.line (now (s .entry)) from ⌝ }
+    ensures { λ r. ⌜ (from < r .next) × (r .next ≤ length (now (s .entry))) ⌝ }
+{
+    let mut r = Reading {
+        count: 0,
+        numbers: [0; 128],
+        digits: 0,
+        negative: false,
+    };
+    let mut i = from;
+    while i < s.len() {
+        let b = s[i];
+        r = step(r, b);
+        i += 1;
+        if b == b'\n' {
+            return asked(r, i);
+        }
+    }
+    asked(r, i)
+}
+
+// The numbers from a place on, each cut to a word, as many as out has room for.
+pub fn words(n: [i64; 128], from: usize, out: &mut [i16])
+    requires { ⌜ from + length (now out) ≤ 128 ⌝ }
+    ensures { λ _. ⌜ now (out .exit) ≡ table (Questions.wordAt n from) (length (now (out .entry))) ⌝ }
+{
+    let mut i = 0;
+    while i < out.len() {
+        out[i] = fixed::low(n[from + i]);
+        i += 1;
+    }
+}
+
+// How far x is from 0.
+pub fn size(x: i64) -> u64
+    ensures { λ r. ⌜ r ≡ natAbs x ⌝ }
+{
+    let m = fixed::magnitude(x);
+    if x < 0 { m + 1 } else { m }
+}
+
+fn say_number(x: i64) {
+    if x < 0 {
+        io::write_all(STDOUT_FILENO, b"-");
+    }
+    io::print_decimal(STDOUT_FILENO, size(x));
+}
+
+// The numbers, with a blank between them.
+pub fn say_numbers(numbers: &[i64]) {
+    let mut i = 0;
+    while i < numbers.len() {
+        if 0 < i {
+            io::write_all(STDOUT_FILENO, b" ");
+        }
+        say_number(numbers[i]);
+        i += 1;
+    }
+}
+
+// The numbers, as a line.
+pub fn say(numbers: &[i64]) {
+    say_numbers(numbers);
+    end_line();
+}
+
+pub fn wide_word(x: i16) -> i64
+    ensures { λ r. ⌜ r ≡ x ⌝ }
+{
+    x as i64
+}
+
+// The words, with a blank between them and, where something stands before them, in front.
+pub fn say_words(w: &[i16], follows: bool) {
+    let mut gap = follows;
+    let mut i = 0;
+    while i < w.len() {
+        if gap {
+            io::write_all(STDOUT_FILENO, b" ");
+        }
+        gap = true;
+        say_number(wide_word(w[i]));
+        i += 1;
+    }
+}
+
+pub fn end_line() {
+    io::write_all(STDOUT_FILENO, b"\n");
+}
+
+// The words, as a line.
+pub fn say_line(w: &[i16]) {
+    say_words(w, false);
+    end_line();
+}

@@ -1,0 +1,66 @@
+// The answers of pitch: an absolute code, a relative code or -1; then nothing, and out comes the lag,
+// or 2 and a seed, and out comes the prediction from its samples, or 3, a seed and a gain, and out come its samples, sharpened.
+use crate::samples::samples;
+use fixed::magnitude;
+use pitch::Lag;
+use questions::say_line;
+ghost use mathlib.Core.Path.{_≡_};
+ghost use Prim.Native.Nat.{_<_};
+ghost use lib.ListN.{length};
+ghost use Rattle.pitch.specs.Pitch as Pitch;
+
+fn absolute(x: i64) -> u16
+    ensures { λ r. ⌜ r < 256 ⌝ }
+{
+    (magnitude(x) % 256) as u16
+}
+
+fn relative(x: i64) -> u16
+    ensures { λ r. ⌜ r < 32 ⌝ }
+{
+    (magnitude(x) % 32) as u16
+}
+
+fn lag(n: [i64; 128]) -> Lag
+    ensures { λ r. ⌜ Pitch.Sane r ⌝ }
+{
+    let first = pitch::decode_absolute(absolute(n[1]));
+    if n[2] < 0 {
+        return first;
+    }
+    pitch::decode_relative(relative(n[2]), first.integer)
+}
+
+fn say_lag(l: Lag) {
+    say_line(&[l.integer, l.frac]);
+}
+
+// The last 80 of the samples are rewritten before they are read.
+fn say_prediction(words: &[i16], l: Lag, seed: u64)
+    requires { ⌜ (length (now words) ≡ 5963) × Pitch.Sane l ⌝ }
+{
+    let mut exc = [0i16; 234];
+    samples(seed, &mut exc);
+    pitch::predict(words, &mut exc, 154, l);
+    say_line(&exc[154..]);
+}
+
+fn say_sharpened(words: &[i16], l: Lag, seed: u64, gain: i16)
+    requires { ⌜ (length (now words) ≡ 5963) × Pitch.Sane l ⌝ }
+{
+    let mut code = [0i16; 80];
+    samples(seed, &mut code);
+    pitch::sharpen(words, &mut code, l, gain);
+    say_line(&code);
+}
+
+pub fn answer(words: &[i16], n: [i64; 128])
+    requires { ⌜ length (now words) ≡ 5963 ⌝ }
+{
+    let l = lag(n);
+    match n[3] {
+        2 => say_prediction(words, l, magnitude(n[4])),
+        3 => say_sharpened(words, l, magnitude(n[4]), fixed::low(n[5])),
+        _ => say_lag(l),
+    }
+}

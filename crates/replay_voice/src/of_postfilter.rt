@@ -1,0 +1,31 @@
+// The answers of postfilter: a seed; out come 16 of its samples, filtered after 24 that the seed 1000 on gives.
+use crate::samples::samples;
+use fixed::magnitude;
+use postfilter::OutputFilter;
+use questions::say_line;
+ghost use mathlib.Core.Path.{_≡_};
+ghost use lib.ListN.{length};
+
+// The zero filter after 24 samples.
+fn begun(words: &[i16], seed: u64) -> OutputFilter
+    requires { ⌜ length (now words) ≡ 5963 ⌝ }
+{
+    let mut block = [0i16; 24];
+    samples(seed, &mut block);
+    let zero = OutputFilter {
+        fir: [0; 6],
+        iir: [0; 6],
+    };
+    postfilter::run(zero, words, &mut block)
+}
+
+pub fn answer(words: &[i16], n: [i64; 128])
+    requires { ⌜ length (now words) ≡ 5963 ⌝ }
+{
+    let seed = magnitude(n[1]) % 65536;
+    let filter = begun(words, seed + 1000);
+    let mut block = [0i16; 16];
+    samples(seed, &mut block);
+    postfilter::run(filter, words, &mut block);
+    say_line(&block);
+}
