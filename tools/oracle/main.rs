@@ -2,7 +2,6 @@
 //!
 //! oracle questions MODULE [SEED]        questions for a module, a line each
 //! oracle answers MODULE [TABLES]        the Rust's answers to the questions on standard input
-//! oracle timed TABLES                   the recording on standard input decoded from reset, and a sum over its samples
 //! oracle trace TABLES [junk]            every figure of every frame of the recording on standard input, from reset; with junk
 //!                                       in the places that no frame may depend on
 //! oracle digest TABLES                  the same in a line for each line of the recording, 32 bits for each part; what was met goes
@@ -76,17 +75,15 @@ fn main() {
                 writeln!(out, "{}", show(&Native::answer(&words[1], &question))).unwrap();
             }
         }
-        Some(how @ ("trace" | "digest" | "timed")) => {
+        Some(how @ ("trace" | "digest")) => {
             lent::fill(&std::fs::read(&words[1]).expect("the table file"));
             let mut recording = Vec::new();
             io::stdin().lock().read_to_end(&mut recording).unwrap();
-            match how {
-                "trace" => Native::trace(&recording, words.get(2).is_some_and(|w| w == "junk"), &mut out),
-                "digest" => {
-                    let name = std::path::Path::new(&words[1]).file_name().unwrap().to_string_lossy().to_string();
-                    eprintln!("{name}: {}", compare::said(&Native::digest(&name, &recording, &mut out)));
-                }
-                _ => writeln!(out, "{}", Native::timed(&recording)).unwrap(),
+            if how == "trace" {
+                Native::trace(&recording, words.get(2).is_some_and(|w| w == "junk"), &mut out);
+            } else {
+                let name = std::path::Path::new(&words[1]).file_name().unwrap().to_string_lossy().to_string();
+                eprintln!("{name}: {}", compare::said(&Native::digest(&name, &recording, &mut out)));
             }
         }
         Some("compare") => {

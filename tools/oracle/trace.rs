@@ -242,19 +242,6 @@ fn difference(rust: &[u8], ours: &[u8]) -> String {
 }
 
 impl Native {
-    /// The recording's frames decoded from reset and nothing printed but a sum over all samples: for timing.
-    pub fn timed(recording: &[u8]) -> i64 {
-        let mut native = Native::default();
-        let mut sum = 0;
-        for p in recording.split(|&c| c == b'\n').filter_map(payload) {
-            if refusal(&p) == 0 {
-                let seen = native.decode(&p).unwrap();
-                sum += seen.pcm.iter().map(|&x| x as i64).sum::<i64>();
-            }
-        }
-        sum
-    }
-
     /// The recording's lines, traced from reset; with junk in the places that no frame may depend on.
     pub fn trace(recording: &[u8], junk: bool, out: &mut impl Write) {
         let mut tracer = Tracer::new();
