@@ -54,13 +54,14 @@ fn add(sum: &mut [u64], more: &[u64]) {
 }
 
 /// One set and one recording for it; the folder holds its tables, its recording and nothing else.
-fn one(program: &str, folder: &std::path::Path, kind: &str, seed: u64, frames: u64, lines: usize) -> Result<Tally, String> {
+fn one(launch: &str, folder: &std::path::Path, kind: &str, seed: u64, frames: u64, lines: usize) -> Result<Tally, String> {
     let tables = sets::set(kind, seed);
     lent::fill(&tables);
     let recording = Native::recording(lines, frames);
     std::fs::write(folder.join("tables.bin"), &tables).unwrap();
     std::fs::write(folder.join("recording"), &recording).unwrap();
-    let mut child = Command::new(program)
+    let mut child = Command::new(launch)
+        .arg("trace")
         .current_dir(folder)
         .stdin(std::fs::File::open(folder.join("recording")).unwrap())
         .stdout(Stdio::piped())
@@ -73,7 +74,7 @@ fn one(program: &str, folder: &std::path::Path, kind: &str, seed: u64, frames: u
 }
 
 /// So many sets of each kind (the bare set is one), so many lines each. Stops at the first difference.
-pub fn all(program: &str, each: u64, lines: usize) -> bool {
+pub fn all(launch: &str, each: u64, lines: usize) -> bool {
     let folder = std::env::temp_dir().join(format!("compare-{}", std::process::id()));
     std::fs::create_dir(&folder).unwrap();
     let began = Instant::now();
@@ -84,7 +85,7 @@ pub fn all(program: &str, each: u64, lines: usize) -> bool {
         for seed in 1..=if kind == "bare" { 1 } else { each } {
             let frames = 100 * (k as u64 + 1) + seed;
             let name = format!("{kind}, set seed {seed}, frames seed {frames}");
-            match one(program, &folder, kind, seed, frames, lines) {
+            match one(launch, &folder, kind, seed, frames, lines) {
                 Ok(tally) => {
                     println!("{name}: {}: equal", said(&tally));
                     sets += 1;

@@ -6,7 +6,7 @@
 //!                                       in the places that no frame may depend on
 //! oracle digest TABLES                  the same in a line for each line of the recording, 32 bits for each part; what was met goes
 //!                                       to standard error
-//! oracle compare PROGRAM SETS LINES     the program `trace` on sets of every kind, every figure compared (compare.rs)
+//! oracle compare LAUNCH SETS LINES      `LAUNCH trace` on sets of every kind, every figure compared (compare.rs)
 //! oracle frames COUNT [SEED]            that many random frames as lines of hexadecimal, damaged ones among them
 //! oracle recording TABLES COUNT [SEED]  that many lines, most of them frames that the set accepts (recordings.rs)
 //! oracle set KIND [SEED]                a table set of 15,834 bytes (sets.rs says which kinds)
