@@ -63,7 +63,7 @@ pub record MarkedCases : Type 0 where
   pub case-5 : Pitch.decodeRelative 0 (pos 20) ≡ lag 19 (pos 1)
   -- 6. "31 after 143: 144, -1."
   pub case-6 : Pitch.decodeRelative 31 (pos 143) ≡ lag 144 (minus 1)
-  -- 7. "Zero prediction: LSFs 41, 362, up to 2930." Of every prediction whose ten sums are 0, before and after they are quantised; and there is such a prediction
+  -- 7. "Zero prediction: LSFs 41, 362, up to 2930." Of every prediction whose ten sums are +0, before and after they are quantised; and there is such a prediction
   pub case-7 : ((history residual : List Float) (bytes : List ℕ) (mode : ℕ)
       → Spectral.sums history residual bytes mode ≡ replicate 10 (float 0)
       → (Spectral.predict history residual bytes mode ≡ map float LSFS)

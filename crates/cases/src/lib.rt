@@ -1,1 +1,1 @@
-// No function: specs/ has document 01's marked cases.
+// No function: specs/ has document 01's marked cases, and inputs of docs/DIFFERENCES.md.
