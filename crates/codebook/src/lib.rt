@@ -4,6 +4,7 @@ ghost use mathlib.Core.Bool.{true};
 ghost use Prim.Native.Nat.{_+_, _-_, _≤_, _<_, min};
 ghost use lib.ListN.{length};
 ghost use lib.IntN.{natAbs};
+ghost use Rattle.tables.specs.Places.{FCB-ALT-A, LSF-CB1};
 ghost use Rattle.tables.specs.SoundWords.{SoundWords};
 ghost use Rattle.codebook.specs.Codebook as Codebook;
 use tables::FCB_ALT_A;
@@ -238,7 +239,7 @@ fn place_pulse(entry: i16, code: &mut [i16; SUBFRAME])
 
 // The five pulses of a row, which is of either book.
 fn place_pulses(words: &[i16], row: usize, code: &mut [i16; SUBFRAME])
-    requires { ⌜ SoundWords (now words) ⌝ ∗ ⌜ 1483 ≤ row ⌝ ∗ ⌜ row + 5 ≤ 4683 ⌝ }
+    requires { ⌜ SoundWords (now words) ⌝ ∗ ⌜ FCB-ALT-A ≤ row ⌝ ∗ ⌜ row + 5 ≤ LSF-CB1 ⌝ }
     ensures { λ _. ⌜ now (code .exit) ≡ Codebook.placePulses (now (words .entry)) row (now (code .entry)) ⌝ }
 {
     for k in 0..ALT_PULSES {

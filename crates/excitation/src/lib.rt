@@ -4,6 +4,18 @@ ghost use Rattle.excitation.specs.Excitation as Excitation;
 use fixed::fold;
 use fixed::shift;
 
+// A half, which both gains are set to where they are set at all.
+const HALF: i16 = 16384;
+
+// The same, taken away in an accumulator's high word.
+const LESS_HALF: i64 = -16384 * 65536;
+
+// The gain before, doubled, has to be above 13107 for the second to be raised.
+const LESS_WAS_STRONG: i64 = -13107 * 65536;
+
+// How far the lag may have moved and still be the same pitch: three quarters, in an accumulator.
+const SAME_PITCH: i64 = 24576 * 2;
+
 // The gains of the classes without a strong pitch, and of those with one.
 pub struct InterpolationGains {
     pub fixed: i16,
@@ -14,28 +26,28 @@ pub struct InterpolationGains {
 fn peaky_spectrum(reflection: i16) -> bool
     ensures { λ r. ⌜ r ≡ Excitation.peakySpectrum reflection ⌝ }
 {
-    fold(shift((reflection as i64) * 65536, 3), -1073741824) > 0
+    fold(shift((reflection as i64) * 65536, 3), LESS_HALF) > 0
 }
 
 // Whether the adaptive gain before is strong enough to extend.
 fn gain_was_strong(previous_gain: i16) -> bool
     ensures { λ r. ⌜ r ≡ Excitation.gainWasStrong «previous_gain» ⌝ }
 {
-    fold(shift((previous_gain as i64) * 65536, 1), -858980352) > 0
+    fold(shift((previous_gain as i64) * 65536, 1), LESS_WAS_STRONG) > 0
 }
 
 // Whether the lag is above three quarters of the one before.
 fn above_floor(lag: i16, previous_lag: i16) -> bool
     ensures { λ r. ⌜ r ≡ Excitation.aboveFloor lag «previous_lag» ⌝ }
 {
-    fold((lag as i64) * 65536, -((previous_lag as i64) * 49152)) > 0
+    fold((lag as i64) * 65536, -((previous_lag as i64) * SAME_PITCH)) > 0
 }
 
 // Whether the lag is below one and a half times the one before.
 fn below_ceiling(lag: i16, previous_lag: i16) -> bool
     ensures { λ r. ⌜ r ≡ Excitation.belowCeiling lag «previous_lag» ⌝ }
 {
-    let ceiling = shift((previous_lag as i64) * 49152, 1);
+    let ceiling = shift((previous_lag as i64) * SAME_PITCH, 1);
     fold(ceiling, -((lag as i64) * 65536)) > 0
 }
 
@@ -58,7 +70,7 @@ fn second(reflection: i16, previous_gain: i16, lag: i16, previous_lag: i16) -> i
     }
     if gain_was_strong(previous_gain) {
         if pitch_continues(lag, previous_lag) {
-            return 16384;
+            return HALF;
         }
     }
     previous_gain
@@ -74,7 +86,7 @@ pub fn interpolation_gains(
     ensures { λ r. ⌜ r ≡ Excitation.interpolationGains reflection «previous_gain» lag «previous_lag» ⌝ }
 {
     InterpolationGains {
-        fixed: 16384,
+        fixed: HALF,
         voiced: second(reflection, previous_gain, lag, previous_lag),
     }
 }
