@@ -1,13 +1,10 @@
 -- What a mark says of a receiver's state, held against the sender's before the same frame: above 0 that the last frame was the same, 2 that the last two were.
-use Prim.Native.Nat.{ℕ, zero, suc, _+_, _≤_, min}
+use Prim.Native.Nat.{_≤_}
 use mathlib.Core.Path.{_≡_, refl}
-use mathlib.Core.List.{List}
 use native.Mathlib.Omega.{arith}
-use lib.IntN.{ℤ}
-use Rattle.bits.specs.Bits.{fieldsOf}
 use Rattle.frame.specs.Depends as Frame
 use Rattle.celp.specs.declared.State.{State}
-use Rattle.celp.specs.Celp.{refusal, raised, carried, decoded, next, accepted, answer, refused, decode}
+use Rattle.celp.specs.Celp.{carried}
 
 -- two states that agree as they do after one frame that is the same, and after two
 abbrev pub AfterOne : State → State → Type 0
@@ -31,21 +28,3 @@ near-self s = record {
   one = λ h. record { fixed = refl; lag = refl; gains = refl; residuals = refl };
   two = λ h. record { alike = record { lsp = refl; fixed = refl; lag = refl; gains = refl }; residuals = refl };
 }
-
-module _ (words : List ℤ) (bytes : List ℕ) (s t : State) (payload : List ℕ) (room : ℕ) (n : Near s t) where
-  -- the same frame, accepted by both, leaves states that are near
-  pub near-next : refusal words bytes s payload room ≡ 0 → refusal words bytes t payload room ≡ 0 → Near (decode words bytes s payload room .state) (decode words bytes t payload room .state)
-  unfolding decode answer accepted next carried decoded raised
-  near-next a b = rw (a, b) (record {
-    one = λ h. Frame.frame-one words bytes (fieldsOf payload) (carried s) (carried t) (s .residuals) (t .residuals);
-    two = λ (h : 2 ≤ min (s .mark + 1) 2). Frame.frame-two words bytes (fieldsOf payload) (carried s) (carried t) (s .residuals) (t .residuals) (n .one (omega arith));
-  })
-
-  -- and if the receiver answers with mark 2 what it reports is what the sender reports
-  pub near-reports : refusal words bytes t payload room ≡ 0 → decode words bytes s payload room .mark ≡ 2 → decode words bytes s payload room .subframes ≡ decode words bytes t payload room .subframes
-  unfolding decode answer accepted refused decoded
-  near-reports b = by (refusal words bytes s payload room)
-    where
-      by : (k : ℕ) → answer k words bytes s payload .mark ≡ 2 → answer k words bytes s payload .subframes ≡ decode words bytes t payload room .subframes
-      by zero m = rw b (Frame.frame-figures words bytes (fieldsOf payload) (carried s) (carried t) (s .residuals) (t .residuals) (n .two (omega arith)))
-      by (suc k) m = absurd (omega arith)

@@ -39,16 +39,15 @@ module _ (words : List ℤ) (bytes : List ℕ) where
     at-first : Joins [] START
     anywhere : (before : List (List ℕ)) (s : State) → s .mark ≡ 0 → Joins before s
 
-  -- in the place of a frame it is given that frame, or a report that it is lost, or some payload that is refused
-  pub data Given (s : State) (frame : List ℕ) : Event → Type 0 where
-    whole : Given s frame (heard frame 320)
-    lost : Given s frame missed
-    spoilt : (payload : List ℕ) (room : ℕ) → (refusal words bytes s payload room ≡ 0 → ⊥) → Given s frame (heard payload room)
-
-  -- one of these in the place of each frame, in order; each call is given the state that the one before returned
+  -- from the state s it makes the calls es while the sender sends these frames; each call is given the state that the one before returned
   pub data Follows : State → List (List ℕ) → List Event → Type 0 where
     begun : {s : State} → Follows s [] []
-    placed : {s : State} {frame : List ℕ} {frames : List (List ℕ)} {e : Event} {es : List Event} → Given s frame e → Follows (step words bytes s e) frames es → Follows s (frame ∷ frames) (e ∷ es)
+    -- it is given a frame as it was sent
+    whole : {s : State} {frame : List ℕ} {frames : List (List ℕ)} {es : List Event} → Follows (step words bytes s (heard frame 320)) frames es → Follows s (frame ∷ frames) (heard frame 320 ∷ es)
+    -- in no frame's place it makes any call that leaves mark 0: it reports a loss, once or again, or it is refused, as with a stray line or a wrong sample room
+    between : {s : State} {e : Event} {frames : List (List ℕ)} {es : List Event} → step words bytes s e .mark ≡ 0 → Follows (step words bytes s e) frames es → Follows s frames (e ∷ es)
+    -- it goes without a frame while its mark is 0: so one report does for a lost frame, or for several that are lost together
+    without : {s : State} {frame : List ℕ} {frames : List (List ℕ)} {es : List Event} → s .mark ≡ 0 → Follows s frames es → Follows s (frame ∷ frames) es
 
   -- ---- what it may rely on
   pub record MayRely : Type 0 where
@@ -66,3 +65,6 @@ module _ (words : List ℤ) (bytes : List ℕ) where
         → refusal words bytes (after s one) two 320 ≡ 0
         → refusal words bytes (after (after s one) two) frame 320 ≡ 0
         → decode words bytes (after (after s one) two) frame 320 .mark ≡ 2
+    -- Every report of a loss leaves mark 0, and so does every decode that is refused.
+    pub reported : (s : State) → step words bytes s missed .mark ≡ 0
+    pub refused : (s : State) (payload : List ℕ) (room : ℕ) → (refusal words bytes s payload room ≡ 0 → ⊥) → step words bytes s (heard payload room) .mark ≡ 0

@@ -1,5 +1,5 @@
 -- What a receiver may rely on, proved: at each place its state is as near to the sender's as its mark says.
-use Prim.Native.Nat.{ℕ, zero, suc}
+use Prim.Native.Nat.{ℕ, zero, suc, _≤_}
 use mathlib.Core.Path.{_≡_, refl, _∙_}
 use mathlib.Core.List.{List, [], _∷_, _++_}
 use native.Mathlib.Omega.{arith}
@@ -7,17 +7,19 @@ use mathlib.Core.Bool.{true}
 use lib.Dec.{leb}
 use lib.IntN.{ℤ}
 use Rattle.tables.specs.Tables.{check}
+use Rattle.bits.specs.Bits.{fieldsOf}
 use Rattle.spectral.specs.Kept.{Words16}
+use Rattle.frame.specs.Depends as Frame
 use Rattle.celp.specs.declared.State.{State}
-use Rattle.celp.specs.State.{startedBy, started, coldStart, initial, allZero}
-use Rattle.celp.specs.Celp.{refusal}
+use Rattle.celp.specs.State.{startedBy, started, coldStart, missedFrame, initial, allZero}
+use Rattle.celp.specs.Celp.{refusal, raised, carried, decoded, next, accepted, answer, refused, decode}
 use Rattle.celp.specs.Cases.{started-accepted}
 use Rattle.celp.specs.Run.{Event, heard, step, run}
-use Rattle.celp.specs.Mark.{mark-answered, mark-rises, mark-refused, mark-missed}
+use Rattle.celp.specs.Mark.{mark-answered, mark-rises, mark-refused}
 use Rattle.celp.specs.Accepted.{accepted-means, refusal-same}
 use Rattle.celp.specs.StateRule.{Obeying, initial-obeying, run-obeying}
-use Rattle.celp.specs.Near.{Near, near-zero, near-self, near-next, near-reports}
-use Rattle.celp.specs.Receiver.{after, afterAll, Call, START, Joins, at-first, anywhere, Given, whole, lost, spoilt, Follows, begun, placed, MayRely}
+use Rattle.celp.specs.Near.{Near, near-zero, near-self}
+use Rattle.celp.specs.Receiver.{after, afterAll, Call, START, Joins, at-first, anywhere, Follows, begun, whole, between, without, MayRely}
 
 module _ (words : List ℤ) (bytes : List ℕ) where
   -- ---- a call in two parts
@@ -38,34 +40,55 @@ module _ (words : List ℤ) (bytes : List ℕ) where
   joined before s at-first = near-self s
   joined before s (anywhere b r z) = near-zero s _ z
 
-  near-step : (s t : State) (frame : List ℕ) (e : Event) → Near s t → refusal words bytes t frame 320 ≡ 0 → Given words bytes s frame e → Near (step words bytes s e) (after words bytes t frame)
+  module _ (s t : State) (frame : List ℕ) (room : ℕ) (n : Near s t) where
+    -- the same frame, accepted by both, leaves states that are near
+    near-next : refusal words bytes s frame room ≡ 0 → refusal words bytes t frame room ≡ 0 → Near (decode words bytes s frame room .state) (decode words bytes t frame room .state)
+    unfolding decode answer accepted next carried decoded raised
+    near-next a b = rw (a, b) (record {
+      one = λ h. Frame.frame-one words bytes (fieldsOf frame) (carried s) (carried t) (s .residuals) (t .residuals);
+      two = λ (h : 2 ≤ raised (s .mark)). Frame.frame-two words bytes (fieldsOf frame) (carried s) (carried t) (s .residuals) (t .residuals) (n .one (omega arith));
+    })
+
+    -- and if the receiver answers with mark 2 what it reports is what the sender reports
+    near-reports : refusal words bytes t frame room ≡ 0 → decode words bytes s frame room .mark ≡ 2 → decode words bytes s frame room .subframes ≡ decode words bytes t frame room .subframes
+    unfolding decode answer accepted refused decoded
+    near-reports b = by (refusal words bytes s frame room)
+      where
+        by : (k : ℕ) → answer k words bytes s frame .mark ≡ 2 → answer k words bytes s frame .subframes ≡ decode words bytes t frame room .subframes
+        by zero m = rw b (Frame.frame-figures words bytes (fieldsOf frame) (carried s) (carried t) (s .residuals) (t .residuals) (n .two (omega arith)))
+        by (suc k) m = absurd (omega arith)
+
+  -- a frame as it was sent, whether it is accepted or not
+  near-whole : (s t : State) (frame : List ℕ) → Near s t → refusal words bytes t frame 320 ≡ 0 → Near (step words bytes s (heard frame 320)) (after words bytes t frame)
   unfolding step
-  near-step s t frame e n a lost = near-zero _ _ (mark-missed words bytes s)
-  near-step s t frame e n a (spoilt payload room h) = near-zero _ _ (mark-refused words bytes s payload room h)
-  near-step s t frame e n a whole = by (refusal words bytes s frame 320) refl
+  near-whole s t frame n a = by (refusal words bytes s frame 320) refl
     where
       by : (k : ℕ) → refusal words bytes s frame 320 ≡ k → Near (step words bytes s (heard frame 320)) (after words bytes t frame)
-      by zero z = near-next words bytes s t frame 320 n z a
+      by zero z = near-next s t frame 320 n z a
       by (suc k) z = near-zero _ _ (mark-refused words bytes s frame 320 (λ q. omega arith))
 
   followed : (s t : State) (frames : List (List ℕ)) (es : List Event) → Near s t → Call words bytes t frames → Follows words bytes s frames es → Near (run words bytes s es) (afterAll words bytes t frames)
   unfolding run
   followed s t frames es n c begun = n
-  followed s t frames es n c (placed g f) = followed _ _ _ _ (near-step s t _ _ n (c .0) g) (c .1) f
+  followed s t frames es n c (whole f) = followed _ _ _ _ (near-whole s t _ n (c .0)) (c .1) f
+  followed s t frames es n c (between {e = d} z f) = let e : step words bytes s d .mark ≡ 0 = omega arith in followed _ _ _ _ (near-zero (step words bytes s d) t e) c f
+  followed s t frames es n c (without z f) = let e : s .mark ≡ 0 = omega arith in followed _ _ _ _ (near-zero s _ e) (c .1) f
 
   -- ---- the theorem
   pub receiver-may-rely : MayRely words bytes
-  unfolding step
+  unfolding step missedFrame
   receiver-may-rely = record {
     figures = λ before since frame s es c j f m.
         let t = afterAll words bytes (START words bytes) before in
         let d = call-rest (START words bytes) before since (call-first (START words bytes) (before ++ since) (frame ∷ []) c) in
         let n = followed s t since es (joined before s j) d f in
-        near-reports words bytes (run words bytes s es) (afterAll words bytes (START words bytes) (before ++ since)) frame 320 (rw (after-append (START words bytes) before since) n) (call-rest (START words bytes) (before ++ since) (frame ∷ []) c .0) m;
+        near-reports (run words bytes s es) (afterAll words bytes (START words bytes) (before ++ since)) frame 320 (rw (after-append (START words bytes) before since) n) (call-rest (START words bytes) (before ++ since) (frame ∷ []) c .0) m;
     two-in-a-row = λ s one two frame a b c.
         let x = mark-rises words bytes s one 320 a in
         let y = mark-rises words bytes (after words bytes s one) two 320 b in
         mark-answered words bytes (after words bytes (after words bytes s one) two) frame 320 c ∙ omega arith;
+    reported = λ s. refl;
+    refused = mark-refused words bytes;
   }
 
   -- ---- states to join in

@@ -25,7 +25,7 @@ use Rattle.celp.specs.Celp.{refusal, decode}
 use Rattle.celp.specs.Run.{Event, heard, missed, step, run}
 use Rattle.celp.specs.Accepted.{accepted-means}
 use Rattle.celp.specs.StateRule.{Obeying, decode-obeying, run-obeying}
-use Rattle.celp.specs.Receiver.{after, afterAll, Call, START, at-first, whole, lost, spoilt, begun, placed}
+use Rattle.celp.specs.Receiver.{after, afterAll, Call, START, at-first, begun, whole, between, without}
 use Rattle.celp.specs.Relied.{receiver-may-rely, started-obeying, cold-joins}
 
 -- the zero frame, and a payload that its last byte has refused
@@ -64,6 +64,9 @@ spoilt-refused : (s : State) → refusal bareWords bareBytes s SPOILT 320 ≡ 0 
 unfolding SPOILT
 spoilt-refused s e = let a = accepted-means bareWords bareBytes s SPOILT 320 e .no-padding in omega arith
 
+narrow-refused : (s : State) → refusal bareWords bareBytes s ZERO 319 ≡ 0 → ⊥
+narrow-refused s e = let a = accepted-means bareWords bareBytes s ZERO 319 e .samples-long in omega arith
+
 -- ---- short names: the two states, a zero frame that is heard, its answer, and the sender's
 abbrev RESET : State
 RESET = START bareWords bareBytes
@@ -101,20 +104,24 @@ two-heard s o =
     let b = run-obeying bareWords bareBytes bare16 s (zeroHeard ∷ zeroHeard ∷ []) o in
     receiver-may-rely bareWords bareBytes .two-in-a-row s ZERO ZERO ZERO (zero-accepted s (o .rule)) (zero-accepted _ (a .rule)) (zero-accepted _ (b .rule))
 
--- of a call of six frames a receiver hears the first, misses the second, has the third spoilt, and hears two more: the sixth has the sender's figures
+-- Of a call of eight frames a receiver hears the first; reports the second as lost, twice; hands the third in with a sample room of 319, and again with 320; reports
+-- the fourth and fifth, lost together, once; hands in a stray payload; and hears two more: the eighth has the sender's figures.
 past : List Event
-past = zeroHeard ∷ missed ∷ heard SPOILT 320 ∷ []
+past = zeroHeard ∷ missed ∷ missed ∷ heard ZERO 319 ∷ zeroHeard ∷ missed ∷ heard SPOILT 320 ∷ []
 
-sixth : (answered RESET (past ++ zeroHeard ∷ zeroHeard ∷ []) .mark ≡ 2) × (answered RESET (past ++ zeroHeard ∷ zeroHeard ∷ []) .subframes ≡ sent 5 .subframes)
+eighth : (answered RESET (past ++ zeroHeard ∷ zeroHeard ∷ []) .mark ≡ 2) × (answered RESET (past ++ zeroHeard ∷ zeroHeard ∷ []) .subframes ≡ sent 7 .subframes)
 unfolding past run
-sixth =
+eighth =
+    let r = receiver-may-rely bareWords bareBytes in
     let m = two-heard (run bareWords bareBytes RESET past) (run-obeying bareWords bareBytes bare16 RESET past reset-obeys) in
-    let f = placed whole (placed lost (placed (spoilt SPOILT 320 (spoilt-refused _)) (placed whole (placed whole begun)))) in
-    (m, receiver-may-rely bareWords bareBytes .figures [] (replicate 5 ZERO) ZERO RESET (past ++ zeroHeard ∷ zeroHeard ∷ []) (zero-call 6 RESET reset-obeys) at-first f m)
+    let twice = whole (whole begun) in
+    let four-and-five = between (r .reported _) (without (r .reported _) (without (r .reported _) (between (r .refused _ SPOILT 320 (spoilt-refused _)) twice))) in
+    let f = whole (between (r .reported _) (without (r .reported _) (between (r .reported _) (between (r .refused _ ZERO 319 (narrow-refused _)) (whole four-and-five))))) in
+    (m, r .figures [] (replicate 7 ZERO) ZERO RESET (past ++ zeroHeard ∷ zeroHeard ∷ []) (zero-call 8 RESET reset-obeys) at-first f m)
 
 -- and one that joins in the cold state at the third answers the fifth with the sender's figures
 fifth : (answered COLD (zeroHeard ∷ zeroHeard ∷ []) .mark ≡ 2) × (answered COLD (zeroHeard ∷ zeroHeard ∷ []) .subframes ≡ sent 4 .subframes)
 fifth =
     let m = two-heard COLD cold-obeys in
     let twice = replicate 2 ZERO in
-    (m, receiver-may-rely bareWords bareBytes .figures twice twice ZERO COLD (zeroHeard ∷ zeroHeard ∷ []) (zero-call 5 RESET reset-obeys) (cold-joins bareWords bareBytes twice) (placed whole (placed whole begun)) m)
+    (m, receiver-may-rely bareWords bareBytes .figures twice twice ZERO COLD (zeroHeard ∷ zeroHeard ∷ []) (zero-call 5 RESET reset-obeys) (cold-joins bareWords bareBytes twice) (whole (whole begun)) m)
