@@ -46,17 +46,22 @@ each l n e a k h = subst T (sym (all-at (within 131072) l nan a k (omega arith))
 of-each : (l : List Float) (n : ℕ) → length l ≡ n → ((k : ℕ) → k < n → T (within 131072 (getD l k nan))) → all (within 131072) l ≡ true
 of-each l n e h = all-of (within 131072) l nan (λ k p. is (within 131072 (getD l k nan)) (h k (omega arith)))
 
-kept : (s : State) → Obeying s → Kept (s .residuals) (s .gains)
+pub floats-within : (s : State) → State.obeys s ≡ true → (all (within 131072) (s .residuals) ≡ true) × (all (within 131072) (s .gains) ≡ true)
 unfolding State.obeys
-kept s o =
+floats-within s e =
     let r = all (within 131072) (s .residuals) in
     let g = all (within 131072) (s .gains) in
     let m = leb (s .mark) 2 in
+    (and-left r (g && m) e, and-left g m (and-right r (g && m) e))
+
+pub kept : (s : State) → Obeying s → Kept (s .residuals) (s .gains)
+kept s o =
+    let w = floats-within s (o .rule) in
     record {
       residuals-long = o .residuals-long;
-      residuals-within = each (s .residuals) 30 (o .residuals-long) (and-left r (g && m) (o .rule));
+      residuals-within = each (s .residuals) 30 (o .residuals-long) (w .0);
       gains-long = o .gains-long;
-      gains-within = each (s .gains) 4 (o .gains-long) (and-left g m (and-right r (g && m) (o .rule)));
+      gains-within = each (s .gains) 4 (o .gains-long) (w .1);
     }
 
 obeying : (s : State) → Kept (s .residuals) (s .gains) → leb (s .mark) 2 ≡ true → Obeying s
@@ -113,3 +118,8 @@ module _ (words : List ℤ) (bytes : List ℕ) (w : Words16 words) where
   -- from reset or a cold start no call of it is refused with 5
   pub never-five : (s : State) (es : List Event) → Obeying s → (payload : List ℕ) (room : ℕ) → refusal words bytes (run words bytes s es) payload room ≡ 5 → ⊥
   never-five s es o payload room e = obeyed-not-five words bytes (run words bytes s es) payload room (run-obeying s es o .rule) e
+
+  -- and no missed frame answers 5
+  pub missed-never-five : (s : State) (es : List Event) → Obeying s → State.missedFrame (run words bytes s es) .number ≡ 0
+  unfolding State.missedFrame
+  missed-never-five s es o = rw (run-obeying s es o .rule)
