@@ -5,6 +5,7 @@ pub mod Run
 pub mod Mark
 pub mod Accepted
 pub mod StateRule
+pub mod Numbers
 pub mod Near
 pub mod Receiver
 pub mod Relied
