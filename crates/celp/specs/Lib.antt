@@ -6,6 +6,7 @@ pub mod Mark
 pub mod Accepted
 pub mod StateRule
 pub mod Numbers
+pub mod Lags
 pub mod Near
 pub mod Receiver
 pub mod Relied
