@@ -7,6 +7,7 @@ pub mod Accepted
 pub mod StateRule
 pub mod Numbers
 pub mod Lags
+pub mod Sorted
 pub mod Near
 pub mod Receiver
 pub mod Relied
