@@ -4,3 +4,5 @@ pub mod Figures
 pub mod Kept
 pub mod Room
 pub mod Depends
+pub mod Full
+pub mod FullSame

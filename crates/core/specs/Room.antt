@@ -2,30 +2,23 @@
 use native.Mathlib.Omega.{arith}
 use mathlib.Core.Path.{_≡_, sym, ap, _∙_}
 use mathlib.Core.List.{List, [], _∷_, _++_}
-use Prim.Native.Nat.{ℕ, zero, suc, _+_, _-_, _*_, _≤_, _<_}
+use Prim.Native.Nat.{ℕ, zero, suc, _+_, _-_, _≤_, _<_}
 use lib.IntN.{ℤ, pos}
 use lib.Ieee.{Float}
 use lib.ListN.{length, getD, take, drop, set, replicate, length-append, length-replicate}
-use lib.Seq.{take-all, take-at, drop-at, take-set-lt, take-suc-set, getD-take, take-add, length-take-le}
-use Rattle.sequence.specs.Total.{total, total-same}
+use lib.Seq.{take-all, take-at, drop-at, take-set-lt, take-suc-set, take-add, length-take-le}
 use Rattle.sequence.specs.Rewritten.{rewritten, length-rewritten}
-use Rattle.fixed.specs.Fixed.{fold, sat, hi, mul}
+use Rattle.fixed.specs.Fixed.{fold, sat, hi}
 use Rattle.bits.specs.declared.HalfParams.{HalfParams}
 use Rattle.bits.specs.Widths.{InWidths}
 use Rattle.pitch.specs.declared.Lag.{Lag}
 use Rattle.pitch.specs.Pitch as Pitch
 use Rattle.pitch.specs.Lags.{sane-delay, absolute-sane, relative-sane}
 use Rattle.pitch.specs.Kept.{length-predict}
+use Rattle.pitch.specs.Reads.{Agree, agree-at, interpolated-same}
 use Rattle.core.specs.declared.Core.{Core}
 use Rattle.core.specs.declared.SubframeParams.{SubframeParams}
 use Rattle.core.specs.Core as Spec
-
--- x and y agree before place n
-abbrev pub Agree : ℕ → List ℤ → List ℤ → Type 0
-Agree n x y = take n x ≡ take n y
-
-agree-at : (n k : ℕ) (x y : List ℤ) → Agree n x y → k < n → getD x k (pos 0) ≡ getD y k (pos 0)
-agree-at n k x y e h = sym (getD-take n x k (pos 0) h) ∙ ap (λ (l : List ℤ). getD l k (pos 0)) e ∙ getD-take n y k (pos 0) h
 
 agree-all : (n : ℕ) (x y : List ℤ) → length x ≡ n → length y ≡ n → Agree n x y → x ≡ y
 agree-all n x y a b e = sym (take-all n x (omega arith)) ∙ e ∙ take-all n y (omega arith)
@@ -60,19 +53,13 @@ module _ (g : ℕ → List ℤ → ℤ) (start : ℕ) (x y : List ℤ) where
 -- ---- prediction reads only what stands before the sample that it makes
 module _ (taps : List ℤ) (l : Lag) (s : Pitch.Sane l) (start n : ℕ) (h : 154 ≤ start) (x y : List ℤ) (e : Agree (start + n) x y) where
   predicted-same : Pitch.predicted taps (Pitch.phase l) (Pitch.delay l) start n x ≡ Pitch.predicted taps (Pitch.phase l) (Pitch.delay l) start n y
-  unfolding Pitch.predicted Pitch.interpolatedSample Pitch.before Pitch.after
+  unfolding Pitch.predicted
   predicted-same =
       let d = sane-delay l s in
-      let c : ℕ = start + n - Pitch.delay l in
-      let p : ℕ = Pitch.phase l in
-      let b : total fold (pos 0) (Pitch.before taps p x c) 10 ≡ total fold (pos 0) (Pitch.before taps p y c) 10 =
-      total-same fold (pos 0) (Pitch.before taps p x c) (Pitch.before taps p y c) 10 (λ k g. ap (λ (z : ℤ). mul z (getD taps (p + 3 * k) (pos 0))) (agree-at (start + n) (c - k) x y e (omega arith))) in
-      let a : total fold (total fold (pos 0) (Pitch.before taps p y c) 10) (Pitch.after taps (3 - p) x c) 10 ≡ total fold (total fold (pos 0) (Pitch.before taps p y c) 10) (Pitch.after taps (3 - p) y c) 10 =
-      total-same fold (total fold (pos 0) (Pitch.before taps p y c) 10) (Pitch.after taps (3 - p) x c) (Pitch.after taps (3 - p) y c) 10 (λ k g. ap (λ (z : ℤ). mul z (getD taps (3 - p + 3 * k) (pos 0))) (agree-at (start + n) (c + 1 + k) x y e (omega arith))) in
-      ap (λ (z : ℤ). hi (sat (fold z (pos 32768)))) (ap (λ (z : ℤ). total fold z (Pitch.after taps (3 - p) x c) 10) b ∙ a)
+      ap (λ (z : ℤ). hi (sat (fold z (pos 32768)))) (interpolated-same taps (Pitch.phase l) (start + n - Pitch.delay l) (start + n) x y e (omega arith))
 
 -- ---- a subframe
-length-excited : (words : List ℤ) (start : ℕ) (z : List ℤ) (l : Lag) (pitch code : ℤ) (innovation : List ℤ) → length (Spec.excited words z start l pitch code innovation) ≡ length z
+pub length-excited : (words : List ℤ) (start : ℕ) (z : List ℤ) (l : Lag) (pitch code : ℤ) (innovation : List ℤ) → length (Spec.excited words z start l pitch code innovation) ≡ length z
 unfolding Spec.excited Spec.mix
 length-excited words start z l pitch code innovation = length-rewritten _ start _ 80 ∙ length-predict (Pitch.interp words) z start l
 
@@ -146,7 +133,7 @@ module _ (words : List ℤ) (bytes : List ℕ) (core : Core) (lsp : List ℤ) (p
   unfolding Spec.between
   between-agree = excited-agree words 154 other zeros (omega arith) (omega (arith, other-long)) (omega (arith, zeros-long)) before _ first-traced _ _ _
 
-  between-long : length between ≡ 314
+  pub between-long : length between ≡ 314
   between-long = length-excited words 154 other _ _ _ _ ∙ other-long
 
   own-long : length (Spec.between words bytes core lsp p) ≡ 314
