@@ -12,3 +12,4 @@ pub mod Near
 pub mod Receiver
 pub mod Relied
 pub mod WorkedCall
+pub mod FullState

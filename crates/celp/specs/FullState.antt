@@ -1,0 +1,88 @@
+-- The Rust's decoder with its full state, beside ours, call by call. Whatever stands in the places that our state leaves out (160 of the 314 excitation samples,
+-- `sharpen_voiced`, `previous_lag`), an accepted frame is answered alike, and the decoder after it has our next state's parts again.
+use Prim.Native.Nat.{ℕ}
+use mathlib.Core.Path.{_≡_, refl, ap, _∙_}
+use mathlib.Core.List.{List, _++_}
+use native.Mathlib.Omega.{arith}
+use lib.IntN.{ℤ}
+use lib.ListN.{length, length-append}
+use lib.Seq.{take-at}
+use Rattle.bits.specs.Bits.{fieldsOf}
+use Rattle.bits.specs.Widths.{within-names, fields-within}
+use Rattle.gain.specs.Gain as Gain
+use Rattle.spectral.specs.Spectral as Spectral
+use Rattle.core.specs.Full.{new, restricted, filled}
+use Rattle.frame.specs.Frame as Frame
+use Rattle.frame.specs.Full.{Native, Observation}
+use Rattle.frame.specs.Full as Full
+use Rattle.frame.specs.FullSame.{kept, frame-same}
+use Rattle.celp.specs.declared.State.{State}
+use Rattle.celp.specs.State.{marked, lspMean, initial, missedFrame}
+use Rattle.celp.specs.Celp.{refusal, carried, next, decoded, accepted, answer, decode, written, samples}
+use Rattle.celp.specs.Cases.{refused-state}
+
+-- a full decoder has the parts of our state
+pub record Carries (n : Native) (s : State) : Type 0 where
+  pub core : kept n ≡ carried s
+  pub residuals : n .spectrum ≡ s .residuals
+  pub long : length (n .core .excitation) ≡ 314
+
+-- `Native::default`
+unfoldable pub fresh : List ℤ → List ℕ → Native
+fresh words bytes = record { core = new (lspMean words); spectrum = Spectral.initial words; gain = Gain.initialHistory bytes }
+
+-- the state filled up with anything in those places
+unfoldable pub completed : State → List ℤ → ℤ → ℤ → Native
+completed s stale voiced lag = record { core = filled (carried s) stale voiced lag; spectrum = s .residuals; gain = s .gains }
+
+pub completed-carries : (s : State) (stale : List ℤ) (voiced lag : ℤ) → length (s .excitation) ≡ 154 → length stale ≡ 160 → Carries (completed s stale voiced lag) s
+unfolding completed filled restricted carried
+completed-carries s stale voiced lag h k =
+    record {
+      core = rw (take-at (s .excitation) stale 154 h);
+      residuals = refl;
+      long = length-append (s .excitation) stale ∙ omega arith;
+    }
+
+module _ (words : List ℤ) (bytes : List ℕ) where
+  -- the decoder that starts has the parts of the state that reset and a cold start give
+  pub fresh-carries : (m : ℕ) → Carries (fresh words bytes) (initial words bytes m)
+  unfolding fresh new restricted carried initial
+  fresh-carries m = record { core = refl; residuals = refl; long = refl }
+
+  -- what an accepted frame is answered
+  pub record Alike (n : Native) (s : State) (payload : List ℕ) (old : List ℤ) : Type 0 where
+    pub pcm : Full.decode words bytes n (fieldsOf payload) .pcm ≡ samples words bytes s payload old
+    pub excitation : Full.decode words bytes n (fieldsOf payload) .excitation ≡ decode words bytes s payload (length old) .excitation
+    pub subframes : Full.decode words bytes n (fieldsOf payload) .subframes ≡ decode words bytes s payload (length old) .subframes
+    pub next : Carries (Full.decode words bytes n (fieldsOf payload) .native) (decode words bytes s payload (length old) .state)
+    pub lags : Full.decode words bytes n (fieldsOf payload) .native .core .«previous_lag» ≡ Full.decode words bytes n (fieldsOf payload) .native .core .«last_half_lag»
+
+  pub accepted-alike : (n : Native) (s : State) (payload : List ℕ) (old : List ℤ) → Carries n s → refusal words bytes s payload (length old) ≡ 0 → Alike n s payload old
+  unfolding decode answer accepted decoded samples written next carried
+  accepted-alike n s payload old c z =
+      let i = within-names (fieldsOf payload) (fields-within payload) in
+      let a = frame-same words bytes n (fieldsOf payload) (i .0) (i .1) (c .long) in
+      record {
+        pcm = rw (a .samples, c .core, c .residuals, z);
+        excitation = rw (a .excitation, c .core, c .residuals, z);
+        subframes = rw (a .subframes, c .core, c .residuals, z);
+        next = record {
+          core = rw (a .core, c .core, c .residuals, z);
+          residuals = rw (a .residuals, c .core, c .residuals, z);
+          long = a .long;
+        };
+        lags = a .lags;
+      }
+
+  -- a refused or a missed frame is none for the Rust: the decoder that is not called keeps our state's parts
+  marked-carries : (n : Native) (s : State) → Carries n s → Carries n (marked s 0)
+  unfolding carried
+  marked-carries n s c = record { core = c .core; residuals = c .residuals; long = c .long }
+
+  pub refused-carries : (n : Native) (s : State) (payload : List ℕ) (room : ℕ) → Carries n s → (refusal words bytes s payload room ≡ 0 → ⊥) → Carries n (decode words bytes s payload room .state)
+  refused-carries n s payload room c h = rw (refused-state words bytes s payload room h) (marked-carries n s c)
+
+  pub missed-carries : (n : Native) (s : State) → Carries n s → Carries n (missedFrame s .state)
+  unfolding missedFrame
+  missed-carries n s c = marked-carries n s c
