@@ -179,6 +179,14 @@ abbrev pub fields : Unpacked → FrameParams
 fields (Fields f) = f
 fields (Refused n) = frameParams (replicate 24 0)
 
+-- in that paper's words: 3 where the payload is not 20 bytes, 6 where payload[19] & 0xc0 is not 0, else 0
+unfoldable pub refusal : List ℕ → ℕ
+refusal p = cond (eqb (length p) 20) (cond (eqb (bitAnd (getD p 19 0) 192) 0) 0 6) 3
+
+-- a refused unpacking gives all-zero fields
+unfoldable pub fieldsOrZero : List ℕ → FrameParams
+fieldsOrZero p = cond (eqb (refusal p) 0) (fieldsOf p) (frameParams (replicate 24 0))
+
 -- ---- packing
 
 -- f at n - 1, and so on down to f at 0

@@ -1,5 +1,5 @@
 -- What the two calls answer: document 01's numbers and fields, and that accepted fields are within their widths.
-use mathlib.Core.Path.{_≡_, refl}
+use mathlib.Core.Path.{_≡_, refl, ap, _∙_}
 use mathlib.Core.Bool.{Bool, true, false, cond}
 use mathlib.Core.List.{List}
 use Prim.Native.Nat.{ℕ}
@@ -9,8 +9,9 @@ use lib.Bits.{bitAnd}
 use lib.Dec.{eqb}
 use lib.ListN.{length, getD, replicate}
 use Rattle.bits.specs.declared.FrameParams.{FrameParams}
+use Rattle.bits.specs.declared.Unpacked.{Unpacked}
 use Rattle.bits.specs.declared.Unpacked.the-variants.{Fields, Refused}
-use Rattle.bits.specs.Bits.{widths, frameParams, list, fieldsOf, unpack, number, fields, pack, widthNumber}
+use Rattle.bits.specs.Bits.{widths, frameParams, list, fieldsOf, unpack, number, fields, refusal, fieldsOrZero, pack, widthNumber}
 use Rattle.bits.specs.Digits.{Within}
 use Rattle.bits.specs.Widths.{InWidths, within-names, names-within, width-accepts, width-accepted, fields-within}
 
@@ -35,8 +36,8 @@ unfolding unpack
 unpack-sized p l = simp l
 
 -- document 01's number and fields of the answer
-pub unpack-number : (p : List ℕ) → number (unpack p) ≡ cond (eqb (length p) 20) (cond (eqb (bitAnd (getD p 19 0) 192) 0) 0 6) 3
-unfolding unpack
+pub unpack-number : (p : List ℕ) → number (unpack p) ≡ refusal p
+unfolding unpack refusal
 unpack-number p = by (eqb (length p) 20) (eqb (bitAnd (getD p 19 0) 192) 0)
   where
     by : (s t : Bool) → number (cond s (cond t (Fields (fieldsOf p)) (Refused 6)) (Refused 3)) ≡ cond s (cond t 0 6) 3
@@ -44,16 +45,20 @@ unpack-number p = by (eqb (length p) 20) (eqb (bitAnd (getD p 19 0) 192) 0)
     by true false = refl
     by false t = refl
 
-pub unpack-fields : (p : List ℕ) → fields (unpack p) ≡ cond (eqb (number (unpack p)) 0) (fieldsOf p) (frameParams (replicate 24 0))
-unfolding unpack
+pub unpack-fields : (p : List ℕ) → fields (unpack p) ≡ fieldsOrZero p
+unfolding unpack refusal fieldsOrZero
 unpack-fields p = by (eqb (length p) 20) (eqb (bitAnd (getD p 19 0) 192) 0)
   where
     by : (s t : Bool)
         → fields (cond s (cond t (Fields (fieldsOf p)) (Refused 6)) (Refused 3))
-        ≡ cond (eqb (number (cond s (cond t (Fields (fieldsOf p)) (Refused 6)) (Refused 3))) 0) (fieldsOf p) (frameParams (replicate 24 0))
+        ≡ cond (eqb (cond s (cond t 0 6) 3) 0) (fieldsOf p) (frameParams (replicate 24 0))
     by true true = refl
     by true false = refl
     by false t = refl
+
+-- so the answer is settled three ways
+pub unpack-answers : (p : List ℕ) (r : Unpacked) → r ≡ unpack p → (r ≡ unpack p) × (number r ≡ refusal p) × (fields r ≡ fieldsOrZero p)
+unpack-answers p r e = (e, ap number e ∙ unpack-number p, ap fields e ∙ unpack-fields p)
 
 -- fields within their widths are packed
 pub pack-accepts : (f : FrameParams) (out : List ℕ) → InWidths (f .first) → InWidths (f .second) → length out ≡ 20 → pack f out ≡ 0

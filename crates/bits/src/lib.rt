@@ -470,8 +470,9 @@ fn list(f: FrameParams) -> [u16; 24]
     ]
 }
 
+// The fields of a payload, or the number that it is refused with.
 pub fn unpack(payload: &[u8]) -> Unpacked
-    ensures { λ r. ⌜ r ≡ Bits.unpack (now (payload .entry)) ⌝ }
+    ensures { λ r. ⌜ (r ≡ Bits.unpack (now (payload .entry))) × (Bits.number r ≡ Bits.refusal (now (payload .entry))) × (Bits.fields r ≡ Bits.fieldsOrZero (now (payload .entry))) ⌝ }
 {
     if payload.len() != 20 {
         return Unpacked::Refused(3);

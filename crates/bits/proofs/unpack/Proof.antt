@@ -4,13 +4,14 @@ use lib.Bits.{bitAnd}
 use lib.ListN.{getD}
 use borrow.Author.Tests.{eq-eqb, ne-eqb}
 use Rattle.bits.specs.Bits.{fieldsOf, unpack}
+use Rattle.bits.specs.Calls.{unpack-answers}
 use borrow.Author.Needs.{needs}
 use Rattle.bits.proofs.unpack.Statement.{statement}
 use Rattle.bits.proofs.unpack.Tie as tie
 
 returns : tie.Need-returns
 unfolding unpack
-returns c = simp (ne-eqb _ 20 (c .if1 .taken))
+returns c = unpack-answers _ _ (simp (ne-eqb _ 20 (c .if1 .taken)))
 
 shared-slice-read-if2 : tie.Need-shared-slice-read-if2
 shared-slice-read-if2 c = search needs
@@ -20,7 +21,7 @@ unfolding unpack
 returns-2 c =
     let l = eq-eqb _ 20 (c .before .before .if1 .left) in
     let m = ne-eqb (bitAnd (getD (now (c .before .before .before .before .args .payload)) 19 0) 192) 0 (c .if2 .taken) in
-    simp (l, m)
+    unpack-answers _ _ (simp (l, m))
 
 gather-requires : tie.Need-gather-requires
 gather-requires c κs = search needs
@@ -42,7 +43,7 @@ unfolding unpack fieldsOf
 returns-3 c =
     let l = eq-eqb _ 20 (c .before .before .before .before .before .if1 .left) in
     let m = eq-eqb (bitAnd (getD (now (c .before .before .before .before .before .before .before .args .payload)) 19 0) 192) 0 (c .before .before .before .if2 .left) in
-    simp (l, m, c .half-params2 .ensures, c .before .half-params .ensures, c .before .before .gather .ensures)
+    unpack-answers _ _ (simp (l, m, c .half-params2 .ensures, c .before .half-params .ensures, c .before .before .gather .ensures))
 
 pub unpack-spec : {M : Type 1} → statement M
 unpack-spec =

@@ -15,7 +15,7 @@ fields-requires : tie.Need-fields-requires
 fields-requires c κs = search needs
 
 refusal-requires : tie.Need-refusal-requires
-refusal-requires c κs = c .fields .ensures ∙ ap fields (c .before .unpack .ensures)
+refusal-requires c κs = c .fields .ensures ∙ ap fields (c .before .unpack .ensures .0)
 
 refused-requires : tie.Need-refused-requires
 refused-requires c κs = search needs
@@ -32,7 +32,7 @@ decode-requires : tie.Need-decode-requires
 decode-requires c κs =
     let n = c .before .before .before .before in
     let s = n .before .before .before .before .before in
-    let r = ready (now (s .args .words)) (now (s .args .bytes)) (s .args .state) (now (s .args .payload)) (now (s .args .samples)) (n .before .fields .result) (n .refusal .result) (n .refusal .ensures) (c .before .before .before .if1 .left) (n .before .fields .ensures ∙ ap fields (n .before .before .unpack .ensures)) in
+    let r = ready (now (s .args .words)) (now (s .args .bytes)) (s .args .state) (now (s .args .payload)) (now (s .args .samples)) (n .before .fields .result) (n .refusal .result) (n .refusal .ensures) (c .before .before .before .if1 .left) (n .before .fields .ensures ∙ ap fields (n .before .before .unpack .ensures .0)) in
     (r .set-sound, (r .first-within, (r .second-within, (r .digits-fit, r .samples-long))))
 
 accepted-requires : tie.Need-accepted-requires
@@ -46,7 +46,7 @@ returns-2 c =
     let d = c .before .before in
     let n = d .before .before .before .before .before in
     let s = n .before .before .before .before .before in
-    let r = ready (now (s .args .words)) (now (s .args .bytes)) (s .args .state) (now (s .args .payload)) (now (s .args .samples)) (n .before .fields .result) (n .refusal .result) (n .refusal .ensures) (d .before .before .before .before .if1 .left) (n .before .fields .ensures ∙ ap fields (n .before .before .unpack .ensures)) in
+    let r = ready (now (s .args .words)) (now (s .args .bytes)) (s .args .state) (now (s .args .payload)) (now (s .args .samples)) (n .before .fields .result) (n .refusal .result) (n .refusal .ensures) (d .before .before .before .before .if1 .left) (n .before .fields .ensures ∙ ap fields (n .before .before .unpack .ensures .0)) in
     (rw (c .accepted .ensures, d .decode .ensures .0, d .before .before .carried .ensures) (r .answered), rw (d .decode .ensures .1, d .before .before .carried .ensures) (r .left))
 
 pub decode-spec : {M : Type 1} → statement M
