@@ -1,12 +1,14 @@
 -- Document 01's marked case 12, what its case 14 begins with, and further values worked out from the Rust, computed.
 use mathlib.Core.Path.{_≡_, refl}
-use mathlib.Core.List.{[], _∷_}
-use lib.IntN.{pos, negsuc}
+use mathlib.Core.List.{List, [], _∷_, _++_}
+use Prim.Native.Nat.{_*_}
+use lib.IntN.{ℤ, pos, negsuc}
+use lib.ListN.{replicate}
 use lib.Count.{leadingZeros}
 use Rattle.sequence.specs.Table.{table}
 use Rattle.sequence.specs.Repeated.{repeated}
 use Rattle.fixed.specs.Fixed.{residue, signed, wrap, clamp, fold, mul, mulUs, mul32x16, shift, exp, restoringStep, restoringDivide, sizeReciprocal, normalisedReciprocal}
-use Rattle.lsp.specs.Lsp.{position, entry, negated, own, coefficient, product, linear, firstPolynomial, nextPolynomial, lspPolynomial, plus, minus, halved, front, back, predictor, lspToLpc, midway, residual, inverse, exponent, scale, difference, updated, updateAll, step, tail, reflectionCoefficients}
+use Rattle.lsp.specs.Lsp.{position, entry, cosine, lsfToLsp, negated, own, coefficient, product, linear, firstPolynomial, nextPolynomial, lspPolynomial, plus, minus, halved, front, back, predictor, lspToLpc, midway, residual, inverse, exponent, scale, difference, updated, updateAll, step, tail, reflectionCoefficients}
 
 -- the highest LSF that is quantised, and the highest of 16 bits, whose position is beyond the table
 position-quantised : position (pos 25682) ≡ 16349
@@ -20,6 +22,19 @@ entry-quantised = refl
 entry-beyond : entry (position (pos 32767)) ≡ 63
 unfolding entry position
 entry-beyond = refl
+
+-- entries of 256 for each place and slopes of 4096, where the cosine is the position itself up to the table's end, and is counted on from entry 63 behind it
+rising : List ℤ
+rising = table (λ k. pos (k * 256)) 64 ++ replicate 64 (pos 4096)
+
+lsp-rising : lsfToLsp rising (pos 0 ∷ pos 1 ∷ pos 2 ∷ pos 100 ∷ pos 12867 ∷ pos 12868 ∷ pos 25682 ∷ pos 25735 ∷ pos 25736 ∷ pos 32767 ∷ []) ≡ pos 0 ∷ pos 0 ∷ pos 1 ∷ pos 63 ∷ pos 8191 ∷ pos 8192 ∷ pos 16349 ∷ pos 16383 ∷ pos 16128 ∷ pos 16252 ∷ []
+unfolding lsfToLsp cosine position entry rising table fold mul wrap signed residue
+lsp-rising = refl
+
+-- a slope that falls by 608: 63 places down from 32767 it is rounded down, from 32757.6
+cosine-falling : cosine ((pos 32767 ∷ []) ++ replicate 63 (pos 0) ++ (negsuc 607 ∷ [])) (pos 100) ≡ pos 32757
+unfolding cosine position entry fold mul wrap signed residue
+cosine-falling = refl
 
 -- 12: rounded down
 pub case-12 : midway (negsuc 2) (negsuc 3) ≡ negsuc 3

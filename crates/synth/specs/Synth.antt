@@ -39,3 +39,13 @@ half-decay = refl
 half-memory : memory (pos 4096 ∷ negsuc 2047 ∷ replicate 9 (pos 0)) (replicate 10 (pos 0)) (pos 16384 ∷ pos 0 ∷ pos 0 ∷ []) ≡ replicate 7 (pos 0) ++ (pos 16384 ∷ pos 8192 ∷ pos 4096 ∷ [])
 unfolding memory window sample prediction total fold clamp mul shift wrap signed residue
 half-memory = refl
+
+-- half of the last output again: a tie goes up, of 0.5 to 1 and of -0.5 to 0, and -1.5 to -1; inputs come on top, -0.5 and -7, then -3.5 and -8
+ties : (synthesis (pos 4096 ∷ negsuc 2047 ∷ replicate 9 (pos 0)) (replicate 9 (pos 0) ++ (pos 1 ∷ [])) (pos 0 ∷ []) ≡ pos 1 ∷ []) × (synthesis (pos 4096 ∷ negsuc 2047 ∷ replicate 9 (pos 0)) (replicate 9 (pos 0) ++ (negsuc 0 ∷ [])) (pos 0 ∷ []) ≡ pos 0 ∷ []) × (synthesis (pos 4096 ∷ negsuc 2047 ∷ replicate 9 (pos 0)) (replicate 9 (pos 0) ++ (negsuc 2 ∷ [])) (pos 0 ∷ negsuc 6 ∷ negsuc 7 ∷ []) ≡ negsuc 0 ∷ negsuc 6 ∷ negsuc 10 ∷ [])
+unfolding synthesis window sample prediction total fold clamp mul shift wrap signed residue
+ties = (refl, refl, refl)
+
+-- a predictor that adds the whole last output: 40000 saturates, and so does what lies below -32768
+saturated : synthesis (pos 4096 ∷ negsuc 4095 ∷ replicate 9 (pos 0)) (replicate 9 (pos 0) ++ (pos 20000 ∷ [])) (pos 20000 ∷ negsuc 32767 ∷ negsuc 32767 ∷ negsuc 32767 ∷ []) ≡ pos 32767 ∷ negsuc 0 ∷ negsuc 32767 ∷ negsuc 32767 ∷ []
+unfolding synthesis window sample prediction total fold clamp mul shift wrap signed residue
+saturated = refl
