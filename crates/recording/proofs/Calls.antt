@@ -25,7 +25,7 @@ use Rattle.celp.specs.Mark.{mark-answered}
 use Rattle.celp.specs.Run.{heard, step}
 use Rattle.recording.specs.Text.{refusedText, frameText}
 use Rattle.recording.specs.Recording.{blank, answerText, text}
-use Rattle.recording.specs.Fed.{called}
+use Rattle.recording.specs.Feed.{called}
 
 below : (b : Bool) (n x : ℕ) → n < 16 → x < 16 → cond b n x < 16
 below true n x p q = p

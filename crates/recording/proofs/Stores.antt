@@ -3,23 +3,13 @@ use Prim.Native.Nat.{ℕ, suc, _+_, _*_, _<_, _≤_}
 use mathlib.Core.Path.{_≡_, refl, sym, ap, _∙_}
 use mathlib.Core.List.{List, [], _∷_, _++_, append-assoc, append-nil}
 use native.Mathlib.Numerals.{add-one}
-use native.Mathlib.Nat.{add-zero, zero-add}
 use native.Mathlib.Omega.{arith}
 use lib.IntN.{ℤ, pos}
-use lib.ListN.{length, getD, take, drop, set, length-append, length-set}
-use lib.Seq.{sets, sets-eq, length-sets, length-take-le, take-all, take-suc}
+use lib.ListN.{length, getD, take, set, length-append, length-set}
+use lib.Seq.{sets, length-sets, length-take-le, take-all, take-suc}
 use Rattle.tables.specs.Tables.{unsigned}
-use Rattle.recording.specs.Text.{digit, fourDigits, sampleText, frameText, over}
-
--- one run of stores after another
-pub sets-append : (s t l : List ℕ) (i : ℕ) → sets (sets l i s) (i + length s) t ≡ sets l i (s ++ t)
-sets-append [] t l i = rw add-zero
-sets-append (a ∷ s) t l i = let e : i + suc (length s) ≡ suc i + length s = omega arith in rw e (sets-append s t (set l i a) (suc i))
-
--- from the beginning they are a text over it
-pub sets-over : (text out : List ℕ) → length text ≤ length out → sets out 0 text ≡ over text out
-unfolding over
-sets-over text out h = sets-eq text out 0 (omega arith) ∙ ap (λ (n : ℕ). text ++ drop n out) (zero-add (length text))
+use Rattle.stream.specs.Room.{over, sets-append, sets-over}
+use Rattle.recording.specs.Text.{digit, fourDigits, sampleText, frameText}
 
 pub four-stores : (l : List ℕ) (i a b c d : ℕ) → set (set (set (set l i a) (i + 1) b) (i + 2) c) (i + 3) d ≡ sets l i (a ∷ b ∷ c ∷ d ∷ [])
 four-stores l i a b c d =

@@ -5,6 +5,7 @@ use mathlib.Core.List.{List}
 use mathlib.Core.Bool.{Bool, true, false, _&&_, cond}
 use native.Mathlib.Omega.{arith}
 use lib.Dec.{ltb, eqb}
+use borrow.Author.Tests.{eqb-true, eq-eqb}
 use lib.IntN.{ℤ, pos, negsuc}
 use lib.ListN.{length, getD, drop}
 use Rattle.sequence.specs.Table.{table}
@@ -53,3 +54,16 @@ small file =
 -- the number has one digit
 pub file-number-small : {n : ℕ} (file : List ℕ) → n ≡ checkFile file → n < 10
 file-number-small file e = let h = small file in omega arith
+
+-- a file that is accepted has the right length, and its words are put
+pub accepted-long : (file : List ℕ) → checkFile file ≡ 0 → length file ≡ 15834
+unfolding checkFile
+accepted-long file e = by (eqb (length file) 15834) refl
+  where
+    by : (t : Bool) → eqb (length file) 15834 ≡ t → length file ≡ 15834
+    by true p = eqb-true (length file) 15834 p
+    by false p = let z : _≡_ {A = ℕ} 1 0 = rw p at e in absurd (omega arith)
+
+pub accepted-words : (file : List ℕ) (old : List ℤ) → checkFile file ≡ 0 → wordsOr file old ≡ words file
+unfolding wordsOr
+accepted-words file old e = rw (eq-eqb (length file) 15834 (accepted-long file e))

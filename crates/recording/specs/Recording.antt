@@ -1,7 +1,7 @@
 -- What the decoding program writes: all of it follows from the bytes of the table file and of its input.
 use Prim.Native.Nat.{ℕ, zero, suc}
 use mathlib.Core.Path.{_≡_, refl, ap}
-use mathlib.Core.List.{List, [], _∷_, _++_}
+use mathlib.Core.List.{List, [], _∷_}
 use mathlib.Core.Bool.{Bool, true, false, cond}
 use native.Mathlib.Omega.{arith}
 use lib.Dec.{eqb, ltb}
@@ -9,13 +9,14 @@ use lib.IntN.{ℤ, pos}
 use lib.ListN.{length, take, replicate, length-take}
 use lib.Seq.{take-all}
 use borrow.Author.Tests.{ltb-true, ltb-false, ne-eqb}
+use Rattle.stream.specs.Lines.{lines}
+use Rattle.stream.specs.Told.{texts}
 use Rattle.celp.specs.declared.State.{State}
 use Rattle.celp.specs.declared.Answer.{Answer}
 use Rattle.celp.specs.State.{reset}
 use Rattle.celp.specs.Celp as Celp
 use Rattle.celp.specs.Run.{Event, heard, missed, step}
 use Rattle.recording.specs.Text.{digit, isFrame, payload, frameText, refusedText, tablesRefusedText}
-use Rattle.recording.specs.Lines.{lines}
 use Rattle.recording.specs.File as File
 
 -- the call that a line stands for: one that is not 40 hex digits counts as a missed frame
@@ -35,14 +36,16 @@ unfoldable pub text : List ℤ → List ℕ → State → Event → List ℕ
 text words bytes s (heard payload room) = answerText (Celp.decode words bytes s payload room) (Celp.samples words bytes s payload blank)
 text words bytes s missed = refusedText 9
 
--- what lines are printed as, one after the other, each line's call being given the state that the one before returned
-unfoldable pub texts : List ℤ → List ℕ → State → List (List ℕ) → List ℕ
-texts words bytes s [] = []
-texts words bytes s (line ∷ rest) = text words bytes s (event line) ++ texts words bytes (step words bytes s (event line)) rest
+-- a line's call: the state that it leaves, and what it is printed as
+unfoldable pub lineStep : List ℤ → List ℕ → State → List ℕ → State
+lineStep words bytes s line = step words bytes s (event line)
 
--- a recording, from reset
+unfoldable pub lineText : List ℤ → List ℕ → State → List ℕ → List ℕ
+lineText words bytes s line = text words bytes s (event line)
+
+-- a recording, from reset: its lines, one after the other
 unfoldable pub transcript : List ℤ → List ℕ → List ℕ → List ℕ
-transcript words bytes input = texts words bytes (reset words bytes .state) (lines input)
+transcript words bytes input = texts (lineStep words bytes) (lineText words bytes) (reset words bytes .state) (lines input)
 
 -- all that the program writes, by the table file's refusal number
 unfoldable pub output : ℕ → List ℕ → List ℕ → List ℕ

@@ -5,7 +5,7 @@ use mathlib.Core.List.{List, [], _∷_, _++_}
 use mathlib.Core.Bool.{Bool, _&&_, cond}
 use lib.Dec.{eqb, ltb, leb}
 use lib.IntN.{ℤ, pos, negsuc}
-use lib.ListN.{length, getD, drop}
+use lib.ListN.{length, getD}
 use Rattle.sequence.specs.All.{all}
 use Rattle.sequence.specs.Table.{table}
 use Rattle.tables.specs.Tables.{unsigned}
@@ -76,7 +76,3 @@ refusedText n = 114 ∷ 101 ∷ 102 ∷ 117 ∷ 115 ∷ 101 ∷ 100 ∷ 32 ∷ d
 -- `tables refused N`
 unfoldable pub tablesRefusedText : ℕ → List ℕ
 tablesRefusedText n = 116 ∷ 97 ∷ 98 ∷ 108 ∷ 101 ∷ 115 ∷ 32 ∷ refusedText n
-
--- a buffer with a text over its beginning
-unfoldable pub over : List ℕ → List ℕ → List ℕ
-over text out = text ++ drop (length text) out

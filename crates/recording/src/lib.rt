@@ -2,15 +2,17 @@
 ghost use mathlib.Core.Path.{_≡_};
 ghost use mathlib.Core.Bool.{true};
 ghost use mathlib.Core.List.{[]};
-ghost use Prim.Native.Nat.{_+_, _*_, _%_, _≤_, _<_};
+ghost use Prim.Native.Nat.{_+_, _*_, _%_, _≤_, _<_, min};
 ghost use lib.ListN.{length};
 ghost use lib.Seq.{sets};
+ghost use Rattle.io.specs.Counts.{Counts};
 ghost use Rattle.sequence.specs.All.{all};
+ghost use Rattle.stream.specs.Room.{over};
+ghost use Rattle.stream.specs.Machine.{writtenAll};
 ghost use Rattle.recording.specs.Text as Text;
-ghost use Rattle.recording.specs.Held as Held;
 ghost use Rattle.recording.specs.File as File;
 ghost use Rattle.recording.specs.Recording as Recording;
-ghost use Rattle.recording.specs.Fed as Fed;
+ghost use Rattle.recording.specs.Feed as Feed;
 ghost use Rattle.celp.specs.Run.{heard};
 ghost use Rattle.celp.specs.State.{missedFrame};
 use celp::State;
@@ -33,8 +35,21 @@ pub struct Said {
     pub state: State,
 }
 
+// What a chunk of the input leaves, and how long its text is.
+pub struct Fed {
+    pub recorder: Recorder,
+    pub n: usize,
+}
+
+// The start: the table file's refusal number, how long its text is, and where the recording stands.
+pub struct Started {
+    pub recorder: Recorder,
+    pub number: u8,
+    pub n: usize,
+}
+
 pub fn empty() -> Line
-    ensures { λ r. ⌜ r ≡ Held.kept [] ⌝ }
+    ensures { λ r. ⌜ r ≡ Feed.kept [] ⌝ }
 {
     Line {
         text: [0; 40],
@@ -44,7 +59,7 @@ pub fn empty() -> Line
 
 // A byte more.
 pub fn push(line: Line, b: u8) -> Line
-    ensures { λ r. ⌜ r ≡ Held.push line b ⌝ }
+    ensures { λ r. ⌜ r ≡ Feed.push line b ⌝ }
 {
     let n = line.n;
     let mut l = line;
@@ -83,8 +98,10 @@ pub fn all_digits(text: [u8; 40]) -> bool
     true
 }
 
+// Whether the line that is held is a frame.
 fn held_frame(line: Line) -> bool
-    ensures { λ r. ⌜ r ≡ Held.heldFrame line ⌝ }
+    ensures frame { λ r. ⌜ r ≡ Text.isFrame (Feed.heldLine line) ⌝ }
+    ensures whole { λ r. ⌜ (r ≡ true → (line .n ≡ 40) × (Feed.heldLine line ≡ line .text)) ⌝ }
 {
     if line.n != 40 {
         return false;
@@ -147,7 +164,7 @@ fn put_samples(samples: &[i16], out: &mut [u8], at: usize)
 fn put_frame(mark: u8, samples: &[i16], out: &mut [u8]) -> usize
     requires { ⌜ mark < 16 ⌝ ∗ ⌜ length (now samples) ≡ 320 ⌝ ∗ ⌜ 1283 ≤ length (now out) ⌝ }
     ensures length { λ r. ⌜ r ≡ 1283 ⌝ }
-    ensures text { λ _. ⌜ now (out .exit) ≡ Text.over (Text.frameText mark (now (samples .entry))) (now (out .entry)) ⌝ }
+    ensures text { λ _. ⌜ now (out .exit) ≡ over (Text.frameText mark (now (samples .entry))) (now (out .entry)) ⌝ }
 {
     out[0] = digit(mark);
     out[1] = b' ';
@@ -165,7 +182,7 @@ fn refused_text(number: u8) -> [u8; 10]
 }
 
 // The one line of a refused table file.
-pub fn tables_refused_text(number: u8) -> [u8; 17]
+fn tables_refused_text(number: u8) -> [u8; 17]
     requires { ⌜ number < 16 ⌝ }
     ensures { λ r. ⌜ r ≡ Text.tablesRefusedText number ⌝ }
 {
@@ -191,26 +208,14 @@ pub fn tables_refused_text(number: u8) -> [u8; 17]
     ]
 }
 
-// A text over the beginning of out.
-fn put(text: &[u8], out: &mut [u8])
-    requires { ⌜ length (now text) ≤ length (now out) ⌝ }
-    ensures { λ _. ⌜ now (out .exit) ≡ Text.over (now (text .entry)) (now (out .entry)) ⌝ }
-{
-    let mut i = 0;
-    while i < text.len() {
-        out[i] = text[i];
-        i += 1;
-    }
-}
-
 // The line of a refusal. The answer is its length.
 fn put_refused(number: u8, out: &mut [u8]) -> usize
     requires { ⌜ number < 16 ⌝ ∗ ⌜ 1283 ≤ length (now out) ⌝ }
     ensures length { λ r. ⌜ r ≡ 10 ⌝ }
-    ensures text { λ _. ⌜ now (out .exit) ≡ Text.over (Text.refusedText number) (now (out .entry)) ⌝ }
+    ensures text { λ _. ⌜ now (out .exit) ≡ over (Text.refusedText number) (now (out .entry)) ⌝ }
 {
     let text = refused_text(number);
-    put(&text, out);
+    stream::put(&text, out);
     10
 }
 
@@ -251,8 +256,8 @@ pub fn check_file(file: &[u8], words: &mut [i16]) -> u8
 }
 
 // From reset, with no line open.
-pub fn begin(words: &[i16], bytes: &[u8]) -> Recorder
-    ensures { λ r. ⌜ r ≡ Fed.begin (now (words .entry)) (now (bytes .entry)) ⌝ }
+fn from_reset(words: &[i16], bytes: &[u8]) -> Recorder
+    ensures { λ r. ⌜ r ≡ Feed.begin (now (words .entry)) (now (bytes .entry)) ⌝ }
 {
     let r = celp::reset(words, bytes);
     let state = r.state;
@@ -260,11 +265,49 @@ pub fn begin(words: &[i16], bytes: &[u8]) -> Recorder
     Recorder { state, line }
 }
 
+// Of tables that are refused: a reset that is given none.
+fn idle() -> Recorder
+    ensures { λ r. ⌜ r ≡ Feed.idle ⌝ }
+{
+    let words = [0i16; 1];
+    let bytes = [0u8; 1];
+    let r = celp::reset(&words, &bytes);
+    let state = r.state;
+    let line = empty();
+    Recorder { state, line }
+}
+
+// The start from the table file's bytes, of which the first 15,835 are enough: its words are put, and its refusal goes over the beginning of room.
+pub fn begin(file: &[u8], words: &mut [i16], room: &mut [u8]) -> Started
+    requires { ⌜ length (now words) ≡ 5963 ⌝ ∗ ⌜ 17 ≤ length (now room) ⌝ }
+    ensures started { λ r. ⌜ r ≡ Feed.started (now (file .entry)) ⌝ }
+    ensures words { λ _. ⌜ now (words .exit) ≡ File.wordsOr (now (file .entry)) (now (words .entry)) ⌝ }
+    ensures text { λ _. ⌜ now (room .exit) ≡ over (Feed.startText (now (file .entry))) (now (room .entry)) ⌝ }
+    ensures ready { λ r. ⌜ (r .number ≡ 0 → Feed.Tables (now (words .exit)) (now (file .entry))) ⌝ }
+    ensures fits { λ r. ⌜ Counts (r .n) (now (room .exit)) ⌝ }
+{
+    let number = check_file(file, words);
+    if number != 0 {
+        let text = tables_refused_text(number);
+        stream::put(&text, room);
+        return Started {
+            recorder: idle(),
+            number,
+            n: 17,
+        };
+    }
+    Started {
+        recorder: from_reset(words, &file[11926..]),
+        number: 0,
+        n: 0,
+    }
+}
+
 // A frame's call: its text goes over the beginning of out.
 fn hear(words: &[i16], bytes: &[u8], state: State, payload: [u8; 20], out: &mut [u8]) -> Said
     requires { ⌜ 1283 ≤ length (now out) ⌝ }
-    ensures said { λ r. ⌜ r ≡ Fed.called (now (words .entry)) (now (bytes .entry)) state (heard payload 320) ⌝ }
-    ensures text { λ _. ⌜ now (out .exit) ≡ Text.over (Recording.text (now (words .entry)) (now (bytes .entry)) state (heard payload 320)) (now (out .entry)) ⌝ }
+    ensures said { λ r. ⌜ r ≡ Feed.called (now (words .entry)) (now (bytes .entry)) state (heard payload 320) ⌝ }
+    ensures text { λ _. ⌜ now (out .exit) ≡ over (Recording.text (now (words .entry)) (now (bytes .entry)) state (heard payload 320)) (now (out .entry)) ⌝ }
     ensures fits { λ r. ⌜ r .n ≤ 1283 ⌝ }
 {
     let mut samples = [0i16; 320];
@@ -292,11 +335,12 @@ fn missed(state: State) -> State
 }
 
 // The end of a line: its text goes over the beginning of out.
-pub fn say(words: &[i16], bytes: &[u8], state: State, line: Line, out: &mut [u8]) -> Said
+fn end_line(words: &[i16], bytes: &[u8], state: State, line: Line, out: &mut [u8]) -> Said
     requires { ⌜ 1283 ≤ length (now out) ⌝ }
-    ensures said { λ r. ⌜ r ≡ Fed.said (now (words .entry)) (now (bytes .entry)) state line ⌝ }
-    ensures text { λ _. ⌜ now (out .exit) ≡ Text.over (Recording.text (now (words .entry)) (now (bytes .entry)) state (Fed.heldEvent line)) (now (out .entry)) ⌝ }
+    ensures said { λ r. ⌜ r ≡ Feed.said (now (words .entry)) (now (bytes .entry)) state line ⌝ }
+    ensures text { λ _. ⌜ now (out .exit) ≡ over (Recording.lineText (now (words .entry)) (now (bytes .entry)) state (Feed.heldLine line)) (now (out .entry)) ⌝ }
     ensures fits { λ r. ⌜ r .n ≤ 1283 ⌝ }
+    ensures paid { λ r. ⌜ r .n ≤ 32 * min (line .n) 41 + 32 ⌝ }
 {
     if held_frame(line) {
         let text = line.text;
@@ -307,4 +351,65 @@ pub fn say(words: &[i16], bytes: &[u8], state: State, line: Line, out: &mut [u8]
         n: put_refused(9, out),
         state: next,
     }
+}
+
+// A chunk of the input: all its text goes over the beginning of room.
+fn feed(words: &[i16], bytes: &[u8], recorder: Recorder, chunk: &[u8], room: &mut [u8]) -> Fed
+    requires { ⌜ Feed.roomFor (length (now chunk)) ≤ length (now room) ⌝ }
+    ensures fed { λ r. ⌜ r ≡ Feed.fedChunk (now (words .entry)) (now (bytes .entry)) recorder (now (chunk .entry)) ⌝ }
+    ensures text { λ _. ⌜ now (room .exit) ≡ over (writtenAll (Feed.fed (now (words .entry)) (now (bytes .entry))) (Feed.written (now (words .entry)) (now (bytes .entry))) recorder (now (chunk .entry))) (now (room .entry)) ⌝ }
+    ensures fits { λ r. ⌜ Counts (r .n) (now (room .exit)) ⌝ }
+{
+    let mut state = recorder.state;
+    let mut line = recorder.line;
+    let mut n = 0;
+    let mut at = 0;
+    while at < chunk.len() {
+        let b = chunk[at];
+        at += 1;
+        if b == b'\n' {
+            let said = end_line(words, bytes, state, line, &mut room[n..]);
+            n += said.n;
+            state = said.state;
+            line = empty();
+        } else {
+            line = push(line, b);
+        }
+    }
+    Fed {
+        recorder: Recorder { state, line },
+        n,
+    }
+}
+
+// The end of the input: the text of a line that is open goes over the beginning of room.
+fn end(words: &[i16], bytes: &[u8], recorder: Recorder, room: &mut [u8]) -> usize
+    requires { ⌜ Feed.roomFor 0 ≤ length (now room) ⌝ }
+    ensures length { λ r. ⌜ r ≡ length (Feed.ending (now (words .entry)) (now (bytes .entry)) recorder) ⌝ }
+    ensures text { λ _. ⌜ now (room .exit) ≡ over (Feed.ending (now (words .entry)) (now (bytes .entry)) recorder) (now (room .entry)) ⌝ }
+    ensures fits { λ r. ⌜ Counts r (now (room .exit)) ⌝ }
+{
+    let line = recorder.line;
+    if line.n == 0 {
+        return 0;
+    }
+    let state = recorder.state;
+    let said = end_line(words, bytes, state, line, room);
+    said.n
+}
+
+// What one read gave, nothing being the end of the input: all the text that it gives goes over the beginning of room.
+pub fn answer(words: &[i16], file: &[u8], recorder: Recorder, chunk: &[u8], room: &mut [u8]) -> Fed
+    requires { ⌜ Feed.Tables (now words) (now file) ⌝ ∗ ⌜ Feed.roomFor (length (now chunk)) ≤ length (now room) ⌝ }
+    ensures fed { λ r. ⌜ r ≡ Feed.answered (now (file .entry)) recorder (now (chunk .entry)) ⌝ }
+    ensures text { λ _. ⌜ now (room .exit) ≡ over (Feed.answeredText (now (file .entry)) recorder (now (chunk .entry))) (now (room .entry)) ⌝ }
+    ensures fits { λ r. ⌜ Counts (r .n) (now (room .exit)) ⌝ }
+{
+    if chunk.len() == 0 {
+        return Fed {
+            recorder,
+            n: end(words, &file[11926..], recorder, room),
+        };
+    }
+    feed(words, &file[11926..], recorder, chunk, room)
 }

@@ -1,12 +1,12 @@
 -- Forty zeros, and none counted.
 use mathlib.Core.Path.{refl}
-use Rattle.sequence.specs.Table.{table}
-use Rattle.recording.specs.Held.{start, kept}
+use Rattle.stream.specs.Held.{start}
+use Rattle.recording.specs.Feed.{kept}
 use Rattle.recording.proofs.empty.Statement.{statement}
 use Rattle.recording.proofs.empty.Tie as tie
 
 returns : tie.Need-returns
-unfolding kept start table
+unfolding kept start
 returns c = refl
 
 pub empty-spec : {M : Type 1} → statement M

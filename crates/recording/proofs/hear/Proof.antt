@@ -3,7 +3,8 @@ use borrow.Author.Needs.{needs}
 use mathlib.Core.Path.{sym, ap, _∙_}
 use mathlib.Core.List.{List}
 use Prim.Native.Nat.{ℕ}
-use Rattle.recording.specs.Text.{over, refusedText}
+use Rattle.stream.specs.Room.{over}
+use Rattle.recording.specs.Text.{refusedText}
 use Rattle.recording.proofs.Calls.{number-small, mark-small, text-refused, text-accepted, called-is}
 use Rattle.recording.proofs.Stores.{frame-long}
 use native.Mathlib.Omega.{arith}

@@ -1,20 +1,34 @@
--- Forty bytes, and each a digit.
+-- Forty bytes are the whole array.
+use native.Mathlib.Omega.{arith}
+use mathlib.Core.Path.{_≡_}
+use Prim.Native.Nat.{ℕ}
+use lib.ListN.{length}
 use borrow.Author.Needs.{needs}
 use borrow.Author.Tests.{eq-eqb, ne-eqb}
-use Rattle.recording.specs.Held.{heldFrame}
+use Rattle.stream.specs.Held.{shown, shown-long, shown-whole}
+use Rattle.recording.specs.Text.{isFrame}
+use Rattle.recording.specs.Feed.{heldLine}
 use Rattle.recording.proofs.held_frame.Statement.{statement}
 use Rattle.recording.proofs.held_frame.Tie as tie
 
 returns : tie.Need-returns
-unfolding heldFrame
-returns c = rw (ne-eqb _ 40 (c .if1 .taken))
+unfolding isFrame heldLine
+returns c =
+    let l = c .before .before .args .line in
+    let z = shown-long 40 (l .text) (l .n) (search needs) in
+    (rw (ne-eqb (length (shown 40 (l .text) (l .n))) 40 (λ e. c .if1 .taken (omega arith))), λ e. let y : _≡_ {A = ℕ} 0 1 = cc in absurd (omega arith))
 
 all-digits-requires : tie.Need-all-digits-requires
 all-digits-requires c κs = search needs
 
 returns-2 : tie.Need-returns-2
-unfolding heldFrame
-returns-2 c = rw (eq-eqb _ 40 (c .before .before .if1 .left)) (c .all-digits .ensures)
+unfolding isFrame heldLine
+returns-2 c =
+    let l = c .before .before .before .before .args .line in
+    let z : length (l .text) ≡ 40 = search needs in
+    let n = c .before .before .if1 .left in
+    let w = shown-whole 40 (l .text) (l .n) z n in
+    (rw (w, eq-eqb (length (l .text)) 40 z) (c .all-digits .ensures), λ e. (n, w))
 
 pub held-frame-spec : {M : Type 1} → statement M
 held-frame-spec = tie.close (tie.spec returns all-digits-requires returns-2)

@@ -1,6 +1,7 @@
 -- The test is the definition's.
 use borrow.Author.Tests.{lt-ltb, le-ltb}
-use Rattle.recording.specs.Held.{push}
+use Rattle.stream.specs.Held.{pushText, pushCount}
+use Rattle.recording.specs.Feed.{push}
 use borrow.Author.Needs.{needs}
 use Rattle.recording.proofs.push.Statement.{statement}
 use Rattle.recording.proofs.push.Tie as tie
@@ -12,11 +13,11 @@ add-l : tie.Need-add-l
 add-l c = search needs
 
 returns : tie.Need-returns
-unfolding push
+unfolding push pushText pushCount
 returns c = rw (lt-ltb _ 40 (c .if1 .taken))
 
 returns-2 : tie.Need-returns-2
-unfolding push
+unfolding push pushText pushCount
 returns-2 c = rw (le-ltb _ 40 (c .if1 .left))
 
 pub push-spec : {M : Type 1} → statement M

@@ -1,0 +1,225 @@
+-- The recorder takes its input a byte at a time and writes a text at each line's end. What its calls promise, joined, is the program's text.
+use Prim.Native.Nat.{ℕ, zero, suc, _+_, _-_, _*_, _<_, _≤_, min}
+use mathlib.Core.Path.{_≡_, refl, ap, _∙_}
+use mathlib.Core.List.{List, [], _∷_, _++_, append-nil}
+use mathlib.Core.Bool.{Bool, cond}
+use native.Mathlib.Omega.{arith}
+use lib.Dec.{eqb}
+use lib.IntN.{ℤ}
+use lib.ListN.{length, take, drop, length-drop}
+use lib.Seq.{take-all}
+use borrow.Author.Tests.{eq-eqb, ne-eqb}
+use Rattle.stream.specs.Lines.{lines}
+use Rattle.stream.specs.Held.{start, count, zeros, shown, pushText, pushCount, push-text, push-count, push-one, shown-same}
+use Rattle.stream.specs.Machine.{fedAll, writtenAll, Streamed, streamed-most}
+use Rattle.stream.specs.Reads.{Read, inputOf, answers, Took}
+use Rattle.stream.specs.Reads as Reads
+use Rattle.stream.specs.Told.{texts, told, last, Machine, reads-told}
+use Rattle.celp.specs.declared.State.{State}
+use Rattle.celp.specs.State.{allZero, reset}
+use Rattle.celp.specs.Run.{Event, step}
+use Rattle.recording.specs.declared.Line.{Line}
+use Rattle.recording.specs.declared.Recorder.{Recorder}
+use Rattle.recording.specs.declared.Said.{Said}
+use Rattle.recording.specs.declared.Fed.{Fed}
+use Rattle.recording.specs.declared.Started.{Started}
+use Rattle.recording.specs.Text.{isFrame, tablesRefusedText}
+use Rattle.recording.specs.File as File
+use Rattle.recording.specs.Recording.{event, text, lineStep, lineText, transcript, output, program}
+
+-- ---- what is held of a line: its first 40 bytes, and how many it has, counted to 41
+unfoldable pub kept : List ℕ → Line
+kept line = record { text = start 40 line; n = count 40 line }
+
+unfoldable pub push : Line → ℕ → Line
+push l b = record { text = pushText 40 (l .text) (l .n) b; n = pushCount 40 (l .n) }
+
+-- the line that it tells
+unfoldable pub heldLine : Line → List ℕ
+heldLine l = shown 40 (l .text) (l .n)
+
+-- ---- where a recording stands
+abbrev pub standing : State → Line → Recorder
+standing state line = record { state = state; line = line }
+
+-- after a start that is refused
+unfoldable pub idle : Recorder
+idle = record { state = allZero; line = kept [] }
+
+-- the room that a chunk of n bytes asks: 32 for each of its own and of those that are held, and one text more. A frame's text, 1,283 bytes, is paid for by
+-- the 41 of its line, and a refusal's 10 by one
+abbrev pub roomFor : ℕ → ℕ
+roomFor n = 32 * (n + 82)
+
+abbrev pub credit : Recorder → ℕ
+credit r = 32 * min (r .line .n) 41
+
+module _ (words : List ℤ) (bytes : List ℕ) where
+  -- at the start: reset, and no line is open
+  unfoldable pub begin : Recorder
+  begin = record { state = reset words bytes .state; line = kept [] }
+
+  -- a call: how long its text is, and the state that it returns
+  unfoldable pub called : State → Event → Said
+  called s e = record { n = length (text words bytes s e); state = step words bytes s e }
+
+  -- the end of a line
+  unfoldable pub said : State → Line → Said
+  said s l = record { n = length (lineText words bytes s (heldLine l)); state = lineStep words bytes s (heldLine l) }
+
+  -- a byte more: a newline ends the line
+  unfoldable pub fed : Recorder → ℕ → Recorder
+  fed r b =
+      cond (eqb b 10) (record { state = lineStep words bytes (r .state) (heldLine (r .line)); line = kept [] })
+      (record { state = r .state; line = push (r .line) b })
+
+  -- what is written where the input ends: a line that is open is a line, unless nothing stands in it
+  unfoldable pub ending : Recorder → List ℕ
+  ending r = cond (eqb (r .line .n) 0) [] (lineText words bytes (r .state) (heldLine (r .line)))
+
+  -- what is written at a byte: the text of the line that it ends
+  unfoldable pub written : Recorder → ℕ → List ℕ
+  written r b = cond (eqb b 10) (lineText words bytes (r .state) (heldLine (r .line))) []
+
+  -- a chunk: where it leaves the recorder, and how long its text is
+  unfoldable pub fedChunk : Recorder → List ℕ → Fed
+  fedChunk r chunk = record { recorder = fedAll fed r chunk; n = length (writtenAll fed written r chunk) }
+
+  -- ---- it is the machine of the lines
+  at : State → List ℕ → Recorder
+  at s line = record { state = s; line = kept line }
+
+  module _ (s : State) (line : List ℕ) where
+    step-long : 40 < length line → lineStep words bytes s line ≡ lineStep words bytes s (zeros 41)
+    unfolding lineStep event isFrame
+    step-long h = rw (ne-eqb (length line) 40 (λ e. omega arith))
+
+    text-long : 40 < length line → lineText words bytes s line ≡ lineText words bytes s (zeros 41)
+    unfolding lineText event isFrame
+    text-long h = rw (ne-eqb (length line) 40 (λ e. omega arith))
+
+    step-held : lineStep words bytes s (heldLine (kept line)) ≡ lineStep words bytes s line
+    unfolding heldLine kept
+    step-held = shown-same 40 line (lineStep words bytes s) step-long
+
+    text-held : lineText words bytes s (heldLine (kept line)) ≡ lineText words bytes s line
+    unfolding heldLine kept
+    text-held = shown-same 40 line (lineText words bytes s) text-long
+
+  -- nothing more is written at the end
+  nothing : State → List ℕ
+  nothing s = []
+
+  ends : (s : State) (line : List ℕ) → ending (at s line) ≡ last (lineStep words bytes) (lineText words bytes) nothing s line
+  unfolding at ending kept last nothing
+  ends s [] = refl
+  ends s (b ∷ bs) = rw (ne-eqb (min (suc (length bs)) 41) 0 (λ e. omega arith), append-nil) (text-held s (b ∷ bs))
+
+  machine : Machine (lineStep words bytes) (lineText words bytes) (last (lineStep words bytes) (lineText words bytes) nothing) fed written ending at
+  unfolding at fed written push kept
+  machine = record {
+    newline = λ s line. ap (λ (t : State). record { state = t; line = kept [] }) (step-held s line);
+    newline-text = λ s line. text-held s line;
+    other = λ s line b h. rw (ne-eqb b 10 h, push-text 40 line b, push-count 40 line b);
+    other-text = λ s line b h. rw (ne-eqb b 10 h);
+    end-text = ends;
+  }
+
+  -- however its input is cut into reads, their texts, joined, are the transcript of all that was read
+  pub transcript-told : (reads : List Read) → answers fed written ending begin reads ≡ transcript words bytes (inputOf reads)
+  unfolding begin at transcript told nothing
+  transcript-told reads = reads-told (lineStep words bytes) (lineText words bytes) nothing fed written ending at machine (reset words bytes .state) reads ∙ append-nil _
+
+  -- ---- the loop over a chunk, in a room that is large enough
+  -- a line's text has room behind what is there
+  pub turn-fits : {r₀ : Recorder} {chunk room₀ : List ℕ} {r : Recorder} {n : ℕ} {room : List ℕ} {i : ℕ} → Streamed fed written credit 32 r₀ chunk room₀ r n room i → roomFor (length chunk) ≤ length room₀ → (n + 1283 ≤ length room) × (length room ≡ length room₀)
+  turn-fits {r₀} {chunk} {room₀} {r} {n} {room} {i} s h =
+      let m = streamed-most fed written credit 32 s (omega arith) in
+      (omega arith, m .1)
+
+  -- a turn of it, at a newline and at another byte
+  pub fed-newline : (r : Recorder) {b : ℕ} → b ≡ 10 → (fed r b ≡ standing (lineStep words bytes (r .state) (heldLine (r .line))) (kept [])) × (written r b ≡ lineText words bytes (r .state) (heldLine (r .line)))
+  unfolding fed written
+  fed-newline r {b} e = rw (eq-eqb b 10 e) (refl, refl)
+
+  pub fed-other : (r : Recorder) {b : ℕ} → (b ≡ 10 → ⊥) → (fed r b ≡ standing (r .state) (push (r .line) b)) × (written r b ≡ [])
+  unfolding fed written
+  fed-other r {b} h = rw (ne-eqb b 10 h) (refl, refl)
+
+-- what a turn pays
+pub newline-paid : (l : Line) (n k : ℕ) → k ≤ 32 * min (l .n) 41 + 32 → n + k + 32 * min (kept [] .n) 41 ≤ n + 32 * min (l .n) 41 + 32
+unfolding kept
+newline-paid l n k h = omega arith
+
+pub other-paid : (l : Line) (b : ℕ) → 32 * min (push l b .n) 41 ≤ 32 * min (l .n) 41 + 32
+unfolding push
+other-paid l b = let p = push-one 40 (l .n) in omega arith
+
+-- ---- the calls of the program, over the table file's bytes
+-- the words are those of a file of the right length
+pub record Tables (words : List ℤ) (file : List ℕ) : Type 0 where
+  pub long : length file ≡ 15834
+  pub are : words ≡ File.words file
+
+-- its bytes, as they are lent
+pub part-bytes : (file : List ℕ) → length file ≡ 15834 → take (length file - 11926) (drop 11926 file) ≡ File.bytes file
+part-bytes file e = take-all (length file - 11926) (drop 11926 file) (omega (arith, length-drop 11926 file))
+
+-- the start: nothing is written, or the file's refusal; and where the recording then stands
+unfoldable pub startTextBy : ℕ → List ℕ
+startTextBy zero = []
+startTextBy (suc n) = tablesRefusedText (suc n)
+
+unfoldable pub startText : List ℕ → List ℕ
+startText file = startTextBy (File.checkFile file)
+
+unfoldable pub startedBy : ℕ → List ℕ → Started
+startedBy zero file = record { recorder = begin (File.words file) (File.bytes file); number = 0; n = 0 }
+startedBy (suc n) file = record { recorder = idle; number = suc n; n = 17 }
+
+unfoldable pub started : List ℕ → Started
+started file = startedBy (File.checkFile file) file
+
+-- which of the two it is, by the number
+pub started-refused : (file : List ℕ) (k : ℕ) → k ≡ File.checkFile file → (k ≡ 0 → ⊥) → (started file ≡ record { recorder = idle; number = k; n = 17 }) × (startText file ≡ tablesRefusedText k)
+unfolding started startText startedBy startTextBy
+started-refused file zero e h = absurd (h refl)
+started-refused file (suc k) e h = rw (← e) (refl, refl)
+
+pub started-ready : (file : List ℕ) → File.checkFile file ≡ 0 → (started file ≡ record { recorder = begin (File.words file) (File.bytes file); number = 0; n = 0 }) × (startText file ≡ [])
+unfolding started startText startedBy startTextBy
+started-ready file e = rw e (refl, refl)
+
+module _ (file : List ℕ) where
+  abbrev pub fedBy : Recorder → ℕ → Recorder
+  fedBy = fed (File.words file) (File.bytes file)
+
+  abbrev pub writtenBy : Recorder → ℕ → List ℕ
+  writtenBy = written (File.words file) (File.bytes file)
+
+  abbrev pub endingBy : Recorder → List ℕ
+  endingBy = ending (File.words file) (File.bytes file)
+
+  -- what a read gives, nothing read being the end of the input
+  abbrev pub answeredText : Recorder → List ℕ → List ℕ
+  answeredText r chunk = Reads.answerText fedBy writtenBy endingBy r chunk
+
+  unfoldable pub answered : Recorder → List ℕ → Fed
+  answered r chunk = record { recorder = fedAll fedBy r chunk; n = length (answeredText r chunk) }
+
+  -- a turn of the program
+  abbrev pub TookIn : Recorder → Recorder → ℕ → Bool → Bool → Type 0
+  TookIn r next sent more failed = Took fedBy writtenBy endingBy r next sent more failed
+
+  -- THE PROGRAM, as its calls promise it: the start's text and, where that is no refusal, those of any reads and of one that gives nothing
+  unfoldable pub spoken : List Read → List ℕ
+  spoken reads = startText file ++ cond (eqb (started file .number) 0) (answers fedBy writtenBy endingBy (started file .recorder) reads) []
+
+  spoken-by : (n : ℕ) (reads : List Read) → startTextBy n ++ cond (eqb (startedBy n file .number) 0) (answers fedBy writtenBy endingBy (startedBy n file .recorder) reads) [] ≡ output n file (inputOf reads)
+  unfolding startTextBy startedBy output
+  spoken-by zero reads = transcript-told (File.words file) (File.bytes file) reads
+  spoken-by (suc n) reads = rw (ne-eqb (suc n) 0 (λ e. omega arith)) (append-nil (tablesRefusedText (suc n)))
+
+  pub program-told : (reads : List Read) → spoken reads ≡ program file (inputOf reads)
+  unfolding spoken startText started program
+  program-told reads = spoken-by (File.checkFile file) reads
