@@ -3,12 +3,10 @@ use mathlib.Core.Path.{_≡_, refl, sym, ap, ap₂, _∙_}
 use mathlib.Core.Logic.{⊎-elim}
 use mathlib.Core.List.{List, [], _∷_, map}
 use Prim.Native.Nat.{ℕ, zero, suc, _+_, _*_, _/_, _%_, _≤_, _<_}
-use native.Mathlib.Nat.{mod-eq-of-lt, eq-or-lt-of-le}
+use native.Mathlib.Nat.{eq-or-lt-of-le}
 use native.Mathlib.Decide.{decLt}
 use native.Mathlib.Omega.{arith}
-use lib.Arith.{mod-mul}
-use lib.Bits.{bitAnd, and-high}
-use lib.Pow.{shr-shr}
+use lib.Bits.{bitAnd}
 use lib.Dec.{lit<, lit≤}
 use lib.ListN.{length, getD, replicate, getD-replicate}
 use Rattle.sequence.specs.Table.{table, length-table}
@@ -18,14 +16,14 @@ use Rattle.bits.specs.Bits.{groups, places, widths, inverted, bitAt, rea
 use Rattle.bits.specs.Digits.{Digits, Within, read-spell, spell-read, length-spell, spell-digits}
 use Rattle.bits.specs.Places.{count, places-count, place-below, place-once, groups-count, widths-count}
 use Rattle.bits.specs.Scattered.{scatter-other, read-scatter, scatter-read, scatter-digits}
-use Rattle.bits.specs.Bytes.{bit-lt, bit-of-bytes, bytes-of-bits}
+use Rattle.bits.specs.Bytes.{bit-lt, bit-of-bytes, bytes-of-bits, mask-bits, bits-mask}
 use Rattle.bits.specs.Changed.{changed-twice, length-changed, within-changed}
 use Rattle.bits.specs.Widths.{read-bit-lt, gather-within, fields-list, fields-within, width-accepts}
 use Rattle.bits.specs.Calls.{unpack-accepted, pack-accepted}
 
 -- ---- the bits of fields
 
-zeros-digits : (n : ℕ) → Digits (replicate n 0)
+pub zeros-digits : (n : ℕ) → Digits (replicate n 0)
 zeros-digits zero k = lit< tt
 zeros-digits (suc n) zero = lit< tt
 zeros-digits (suc n) (suc k) = zeros-digits n k
@@ -49,7 +47,7 @@ unfolding frameOf
 frame-bit f i l = bit-of-bytes (spread (changed (list f))) (spread-digits (changed (list f))) 20 i l
 
 -- two readings that agree at the places
-map-same : (f g : ℕ → ℕ) (is : List ℕ) → ((k : ℕ) → k < length is → f (getD is k 0) ≡ g (getD is k 0)) → map f is ≡ map g is
+pub map-same : (f g : ℕ → ℕ) (is : List ℕ) → ((k : ℕ) → k < length is → f (getD is k 0) ≡ g (getD is k 0)) → map f is ≡ map g is
 map-same f g [] h = refl
 map-same f g (i ∷ is) h = ap₂ _∷_ (h 0 (omega arith)) (map-same f g is (λ k p. h (suc k) (omega arith)))
 
@@ -76,13 +74,9 @@ unfolding spread
 last fs i l e = scatter-other (replicate 160 0) places (spell widths fs) i e ∙ getD-replicate 160 i 0 0 l
 
 frame-accepted : (f : FrameParams) → bitAnd (getD (frameOf f) 19 0) 192 ≡ 0
-unfolding bitAt places groups
+unfolding places groups
 frame-accepted f =
-    let n = getD (frameOf f) 19 0 in
-    let a : n / 64 % 2 ≡ 0 = frame-bit f 158 (lit< tt) ∙ last (changed (list f)) 158 (lit< tt) refl in
-    let b : n / 128 % 2 ≡ 0 = frame-bit f 159 (lit< tt) ∙ last (changed (list f)) 159 (lit< tt) refl in
-    let c : n / 64 / 2 % 2 ≡ 0 = ap (λ (x : ℕ). x % 2) (shr-shr n 6 1) ∙ b in
-    and-high n 2 6 ∙ rw (mod-mul (n / 64) {m = 2} {c = 2} (lit< tt) (lit< tt)) (omega arith)
+    bits-mask (frameOf f) (frame-bit f 158 (lit< tt) ∙ last (changed (list f)) 158 (lit< tt) refl) (frame-bit f 159 (lit< tt) ∙ last (changed (list f)) 159 (lit< tt) refl)
 
 pub unpack-pack : (f : FrameParams) (out : List ℕ) → pack f out ≡ 0 → unpack (packed f out) ≡ Fields f
 unfolding unpack packed
@@ -98,12 +92,12 @@ unfolding spread gather widths places
 spread-gather p = ap (scatter (replicate 160 0) places) (spell-read (readBit p) (read-bit-lt p) groups)
 
 -- the two bits that no field has
-padding : (p : List ℕ) → getD p 19 0 < 64 → (i : ℕ) → 158 ≤ i → i < 160 → 0 ≡ bitAt p i
-unfolding bitAt
-padding p h i l s =
-    ⊎-elim (λ (m : 158 ≡ i). let e : i ≡ 158 = sym m in rw e (omega arith)) (λ (m : 158 < i). let e : i ≡ 159 = omega arith in rw e (omega arith)) (eq-or-lt-of-le l)
+padding : (p : List ℕ) → bitAnd (getD p 19 0) 192 ≡ 0 → (i : ℕ) → 158 ≤ i → i < 160 → 0 ≡ bitAt p i
+padding p m i l s =
+    let b = mask-bits p m in
+    ⊎-elim (λ (e : 158 ≡ i). rw (sym e) (sym (b .0))) (λ (h : 158 < i). let e : i ≡ 159 = omega arith in rw e (sym (b .1))) (eq-or-lt-of-le l)
 
-outside : (p : List ℕ) → getD p 19 0 < 64 → (i : ℕ) → i < 160 → count i places ≡ 0 → getD (replicate 160 0) i 0 ≡ bitAt p i
+outside : (p : List ℕ) → bitAnd (getD p 19 0) 192 ≡ 0 → (i : ℕ) → i < 160 → count i places ≡ 0 → getD (replicate 160 0) i 0 ≡ bitAt p i
 outside p h i l t = getD-replicate 160 i 0 0 l ∙ by (decLt i 158)
   where
     by : Dec (i < 158) → 0 ≡ bitAt p i
@@ -113,14 +107,10 @@ outside p h i l t = getD-replicate 160 i 0 0 l ∙ by (decLt i 158)
 frame-fields : (p : List ℕ) → length p ≡ 20 → ((k : ℕ) → getD p k 0 < 256) → bitAnd (getD p 19 0) 192 ≡ 0 → frameOf (fieldsOf p) ≡ p
 unfolding frameOf readBit
 frame-fields p l h m =
-    let top : getD p 19 0 / 64 % 4 * 64 ≡ 0 = sym (and-high (getD p 19 0) 2 6) ∙ m in
-    let none : getD p 19 0 / 64 % 4 ≡ 0 = omega arith in
-    let small : getD p 19 0 / 64 < 4 = omega (arith, h 19) in
-    let rest : getD p 19 0 / 64 ≡ 0 = sym (mod-eq-of-lt small) ∙ none in
     let fs : List ℕ = gather (readBit p) in
     let back : changed (list (fieldsOf p)) ≡ fs = ap changed (fields-list p) ∙ changed-twice fs (omega (arith, gather-within p .same, widths-count)) in
     ap (λ (x : List ℕ). table (byteOf (spread x)) 20) back
-    ∙ bytes-of-bits (spread fs) p 20 l h (λ i s. rw (spread-gather p) (scatter-read 160 (bitAt p) (replicate 160 0) places refl (bit-lt p) (outside p (omega arith)) i s))
+    ∙ bytes-of-bits (spread fs) p 20 l h (λ i s. rw (spread-gather p) (scatter-read 160 (bitAt p) (replicate 160 0) places refl (bit-lt p) (outside p m) i s))
 
 -- p is a list of bytes, as a payload is
 pub pack-unpack : (p : List ℕ) (f : FrameParams) (out : List ℕ) → ((k : ℕ) → getD p k 0 < 256) → length out ≡ 20 → unpack p ≡ Fields f

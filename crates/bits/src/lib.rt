@@ -273,7 +273,8 @@ fn width(k: usize) -> usize
     wide(WIDTHS[k])
 }
 
-fn inverted(i: usize) -> u8
+// 1 where frame bit i is inverted on reading, else 0.
+pub fn inverted(i: usize) -> u8
     ensures { λ r. ⌜ (r ≡ Bits.inverted i) × (r < 2) ⌝ }
 {
     match i {
@@ -286,7 +287,7 @@ fn inverted(i: usize) -> u8
 }
 
 // Frame bit i as it is read.
-fn bit(payload: &[u8], i: usize) -> u8
+pub fn bit(payload: &[u8], i: usize) -> u8
     requires { ⌜ (length (now payload) ≡ 20) × (i < 160) ⌝ }
     ensures { λ r. ⌜ (r ≡ Bits.readBit (now (payload .entry)) i) × (r < 2) ⌝ }
 {
@@ -384,7 +385,8 @@ fn byte(bits: &[u8; 160], b: usize) -> u8
     v
 }
 
-fn put_bytes(bits: &[u8; 160], out: &mut [u8])
+// The 20 bytes that have these bits.
+pub fn put_bytes(bits: &[u8; 160], out: &mut [u8])
     requires { ⌜ (length (now out) ≡ 20) × ((k : ℕ) → getD (now bits) k 0 < 2) ⌝ }
     ensures { λ r. ⌜ now (out .exit) ≡ table (Bits.byteOf (now (bits .entry))) 20 ⌝ }
 {

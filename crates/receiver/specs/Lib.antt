@@ -1,0 +1,5 @@
+pub mod Receiver
+pub mod Order
+pub mod Lines
+pub mod RoundTrips
+pub mod ReceivedFields
