@@ -3,6 +3,7 @@ pub mod Celp
 pub mod Cases
 pub mod Run
 pub mod Mark
+pub mod TwoCalls
 pub mod Accepted
 pub mod StateRule
 pub mod Numbers
