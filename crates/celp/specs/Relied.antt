@@ -14,8 +14,8 @@ use Rattle.celp.specs.declared.State.{State}
 use Rattle.celp.specs.State.{startedBy, started, coldStart, missedFrame, initial, allZero}
 use Rattle.celp.specs.Celp.{refusal, raised, carried, decoded, next, accepted, answer, refused, decode}
 use Rattle.celp.specs.Cases.{started-accepted}
-use Rattle.celp.specs.Run.{Event, heard, step, run}
-use Rattle.celp.specs.Mark.{mark-answered, mark-rises, mark-refused}
+use Rattle.celp.specs.Run.{Event, heard, missed, step, run}
+use Rattle.celp.specs.Mark.{mark-answered, mark-rises, mark-refused, mark-missed}
 use Rattle.celp.specs.Accepted.{accepted-means, refusal-same}
 use Rattle.celp.specs.StateRule.{Obeying, initial-obeying, run-obeying}
 use Rattle.celp.specs.Near.{Near, near-zero, near-self}
@@ -44,10 +44,15 @@ module _ (words : List ℤ) (bytes : List ℕ) where
     -- the same frame, accepted by both, leaves states that are near
     near-next : refusal words bytes s frame room ≡ 0 → refusal words bytes t frame room ≡ 0 → Near (decode words bytes s frame room .state) (decode words bytes t frame room .state)
     unfolding decode answer accepted next carried decoded raised
-    near-next a b = rw (a, b) (record {
-      one = λ h. Frame.frame-one words bytes (fieldsOf frame) (carried s) (carried t) (s .residuals) (t .residuals);
-      two = λ (h : 2 ≤ raised (s .mark)). Frame.frame-two words bytes (fieldsOf frame) (carried s) (carried t) (s .residuals) (t .residuals) (n .one (omega arith));
-    })
+    near-next a b =
+        let x = Frame.frame-one words bytes (fieldsOf frame) (carried s) (carried t) (s .residuals) (t .residuals) in
+        let y = Frame.frame-two words bytes (fieldsOf frame) (carried s) (carried t) (s .residuals) (t .residuals) in
+        rw (a, b) (record {
+          one = λ h. record { fixed = x .fixed; lag = x .lag; gains = x .gains; residuals = x .residuals };
+          two = λ (h : 2 ≤ raised (s .mark)).
+              let z = y (n .one (omega arith)) in
+              record { alike = record { lsp = z .alike .lsp; fixed = z .alike .fixed; lag = z .alike .lag; gains = z .alike .gains }; residuals = z .residuals };
+        })
 
     -- and if the receiver answers with mark 2 what it reports is what the sender reports
     near-reports : refusal words bytes t frame room ≡ 0 → decode words bytes s frame room .mark ≡ 2 → decode words bytes s frame room .subframes ≡ decode words bytes t frame room .subframes
@@ -90,6 +95,15 @@ module _ (words : List ℤ) (bytes : List ℕ) where
     reported = λ s. refl;
     refused = mark-refused words bytes;
   }
+
+  -- ---- in a frame's place
+  -- a loss that is reported there, and a payload that is refused there
+  pub lost : (s : State) {frame : List ℕ} {frames : List (List ℕ)} {es : List Event} → Follows words bytes (step words bytes s missed) frames es → Follows words bytes s (frame ∷ frames) (missed ∷ es)
+  lost s f = between (mark-missed words bytes s) (without (mark-missed words bytes s) f)
+
+  pub spoilt : (s : State) (payload : List ℕ) (room : ℕ) {frame : List ℕ} {frames : List (List ℕ)} {es : List Event} → (refusal words bytes s payload room ≡ 0 → ⊥)
+      → Follows words bytes (step words bytes s (heard payload room)) frames es → Follows words bytes s (frame ∷ frames) (heard payload room ∷ es)
+  spoilt s payload room h f = between (mark-refused words bytes s payload room h) (without (mark-refused words bytes s payload room h) f)
 
   -- ---- states to join in
   -- reset and a cold start of an accepted set obey the state rule

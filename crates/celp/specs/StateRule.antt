@@ -94,7 +94,7 @@ module _ (words : List ℤ) (bytes : List ℕ) (w : Words16 words) where
   accepted-obeying s payload room o z =
       let a = accepted-means words bytes s payload room z in
       let i = within-names (fieldsOf payload) (fields-within payload) in
-      rw z (obeying (next (decoded words bytes s payload) (raised (s .mark))) (decode-kept w (a .set-sound) (carried s) (s .residuals) (fieldsOf payload) (i .0) (i .1) (kept s o)) (le-leb (min (s .mark + 1) 2) 2 (omega arith)))
+      rw z (obeying (next (decoded words bytes s payload) (raised (s .mark))) (decode-kept w (a .set-sound) (carried s) (s .residuals) (fieldsOf payload) (i .0) (i .1) (kept s o)) (le-leb (raised (s .mark)) 2 (omega arith)))
 
   -- any decode: a refused one hands the state back with mark 0
   pub decode-obeying : (s : State) (payload : List ℕ) (room : ℕ) → Obeying s → Obeying (decode words bytes s payload room .state)
