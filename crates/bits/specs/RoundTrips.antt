@@ -18,7 +18,7 @@ use Rattle.bits.specs.Places.{count, places-count, place-below, place-on
 use Rattle.bits.specs.Scattered.{scatter-other, read-scatter, scatter-read, scatter-digits}
 use Rattle.bits.specs.Bytes.{bit-lt, bit-of-bytes, bytes-of-bits, mask-bits, bits-mask}
 use Rattle.bits.specs.Changed.{changed-twice, length-changed, within-changed}
-use Rattle.bits.specs.Widths.{read-bit-lt, gather-within, fields-list, fields-within, width-accepts}
+use Rattle.bits.specs.Widths.{read-bit-lt, InWidths, gather-within, names-within, fields-list, fields-within, width-accepts}
 use Rattle.bits.specs.Calls.{unpack-accepted, pack-accepted}
 
 -- ---- the bits of fields
@@ -83,6 +83,13 @@ unfolding unpack packed
 unpack-pack f out e =
     let l : length (frameOf f) ≡ 20 = length-frame f in
     simp (e, l, frame-accepted f, fields-frame f (pack-accepted f out e .1))
+
+-- all fields within their widths are packed, and unpacking gives them back
+pub packs : (f : FrameParams) (out : List ℕ) → InWidths (f .first) → InWidths (f .second) → length out ≡ 20 → (pack f out ≡ 0) × (unpack (packed f out) ≡ Fields f)
+unfolding pack
+packs f out x y l =
+    let e : pack f out ≡ 0 = simp (l, width-accepts (list f) (names-within f x y)) in
+    (e, unpack-pack f out e)
 
 -- ---- from a frame to fields and back
 
