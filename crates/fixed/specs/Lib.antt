@@ -14,3 +14,4 @@ pub mod Products
 pub mod Halves
 pub mod Division
 pub mod Normal
+pub mod Plain
