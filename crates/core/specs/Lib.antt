@@ -6,3 +6,4 @@ pub mod Room
 pub mod Depends
 pub mod Full
 pub mod FullSame
+pub mod Plain
