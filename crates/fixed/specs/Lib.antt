@@ -9,6 +9,8 @@ pub mod Quotients
 pub mod Machine
 pub mod Bounds
 pub mod Sums
+pub mod PlainSums
+pub mod Runs
 pub mod Shifts
 pub mod Products
 pub mod Halves

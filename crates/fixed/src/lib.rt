@@ -1,8 +1,12 @@
+ghost use mathlib.Core.Bool.{true};
 ghost use mathlib.Core.Path.{_≡_};
-ghost use Prim.Native.Nat.{_≤_};
+ghost use Prim.Native.Nat.{ℕ, _≤_, _<_};
 ghost use lib.IntN.{ℤ, pos, natAbs};
+ghost use lib.ListN.{length, getD};
 ghost use lib.Signed.{mag};
+ghost use Rattle.sequence.specs.Total.{total};
 ghost use Rattle.fixed.specs.Fixed as Fixed;
+ghost use Rattle.fixed.specs.Runs as Runs;
 
 // v wrapped to 40 bits, as the accumulator holds it.
 pub fn acc(v: i64) -> i64
@@ -59,6 +63,62 @@ pub fn mul(x: i16, y: i16) -> i64
     (x as i64) * (y as i64) * 2
 }
 
+// A tap's size.
+fn size(tap: i16) -> i32
+    ensures { λ r. ⌜ r ≡ pos (natAbs tap) ⌝ }
+{
+    let t = tap as i32;
+    if t < 0 { -t } else { t }
+}
+
+// Whether the taps' sizes add up to at most 65,535: then a sum of products by them is one of 32 bits, whatever the signal.
+pub fn small(taps: &[i16]) -> bool
+    requires { ⌜ length (now taps) < 65536 ⌝ }
+    ensures { λ r. ⌜ r ≡ Runs.small (now (taps .entry)) ⌝ }
+{
+    let mut sum = 0i32;
+    for k in 0..taps.len() {
+        sum += size(taps[k]);
+    }
+    sum <= 65535
+}
+
+// The plain sum of the products by small taps: in 32 bits, so that eight are made at a time.
+fn plain(taps: &[i16], signal: &[i16]) -> i32
+    requires { ⌜ (length (now taps) ≡ length (now signal)) × (Runs.small (now taps) ≡ true) ⌝ }
+    ensures { λ r. ⌜ r ≡ Runs.products (now (taps .entry)) (now (signal .entry)) (length (now (signal .entry))) ⌝ }
+{
+    let mut sum = 0i32;
+    for k in 0..signal.len() {
+        sum += (signal[k] as i32) * (taps[k] as i32);
+    }
+    sum
+}
+
+// The products one by one.
+fn each(sum: i64, taps: &[i16], signal: &[i16]) -> i64
+    requires { ⌜ length (now taps) ≡ length (now signal) ⌝ }
+    ensures { λ r. ⌜ r ≡ total Fixed.fold (Fixed.acc sum) (λ (k : ℕ). Fixed.mul (getD (now (signal .entry)) k (pos 0)) (getD (now (taps .entry)) k (pos 0))) (length (now (signal .entry))) ⌝ }
+{
+    let mut value = acc(sum);
+    for k in 0..signal.len() {
+        value = fold(value, mul(signal[k], taps[k]));
+    }
+    value
+}
+
+// A run of products more in a sum that the accumulator holds. For taps that are known to be small they come in together.
+pub fn fold_products(sum: i64, taps: &[i16], small: bool, signal: &[i16]) -> i64
+    requires { ⌜ (length (now taps) ≡ length (now signal)) × (1 ≤ length (now signal)) × (small ≡ true → Runs.small (now taps) ≡ true) ⌝ }
+    ensures { λ r. ⌜ r ≡ total Fixed.fold sum (λ (k : ℕ). Fixed.mul (getD (now (signal .entry)) k (pos 0)) (getD (now (taps .entry)) k (pos 0))) (length (now (signal .entry))) ⌝ }
+{
+    if small {
+        fold(sum, (plain(taps, signal) as i64) * 2)
+    } else {
+        each(sum, taps, signal)
+    }
+}
+
 // The fractional product of an unsigned number, given by its bits, and a signed one.
 pub fn mul_us(x: i16, y: i16) -> i64
     ensures { λ r. ⌜ r ≡ Fixed.mulUs x y ⌝ }
@@ -104,17 +164,18 @@ pub fn exp(v: i64) -> i32
     u64::leading_zeros(magnitude(a)) as i32 - 33
 }
 
-// One step of a division that takes the divisor away where it can.
+// One step of a division that takes the divisor away where it can. What it takes away and the quotient's bit are one term, or 0: a choice between two numbers, not between two ways.
 fn restoring_step(num: i64, den: i16) -> i64
     requires { ⌜ natAbs num ≤ 549755813888 ⌝ }
     ensures { λ r. ⌜ r ≡ Fixed.restoringStep num den ⌝ }
 {
-    let alu = num - (den as i64) * 32768;
-    if alu >= 0 {
-        fold(alu * 2, 1)
+    let divisor = (den as i64) * 32768;
+    let term = if num - divisor >= 0 {
+        1 - divisor * 2
     } else {
-        acc(num * 2)
-    }
+        0
+    };
+    fold(num * 2, term)
 }
 
 // As many steps of the division of an accumulator by den; the quotient's bits come in at the low end.
@@ -137,13 +198,10 @@ fn absolute(v: i64) -> i64
     if v < 0 { -v } else { v }
 }
 
-// The low 16 bits of 16383 by a size, fifteen steps. By a normalised size the steps are one division.
+// The low 16 bits of 16383 by a size, fifteen steps.
 fn reciprocal_bits(size: i16) -> i64
     ensures { λ r. ⌜ r ≡ pos (Fixed.residue 65536 (Fixed.restoringDivide (pos 1073676288) size 15)) ⌝ }
 {
-    if size >= 16384 {
-        return (536838144 / (size as u32)) as i64;
-    }
     restoring_divide(1073676288, size, 15) & 65535
 }
 

@@ -1,5 +1,4 @@
 mod Fraction
 mod Naturals
 mod Taps
-mod Sums
 mod Filter

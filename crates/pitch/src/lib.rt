@@ -1,5 +1,4 @@
 // Lags in thirds of a sample, the adaptive codebook's prediction, and pitch sharpening.
-ghost use mathlib.Core.Bool.{true};
 ghost use mathlib.Core.Path.{_≡_};
 ghost use Prim.Native.Nat.{_+_, _-_, _*_, _/_, _≤_, _<_};
 ghost use lib.ListN.{length};
@@ -10,6 +9,7 @@ ghost use Rattle.pitch.specs.Pitch as Pitch;
 ghost use Rattle.pitch.specs.Window as Window;
 use fixed::acc;
 use fixed::fold;
+use fixed::fold_products;
 use fixed::hi;
 use fixed::low;
 use fixed::mul;
@@ -17,6 +17,7 @@ use fixed::mul32x16;
 use fixed::restoring_divide;
 use fixed::sat;
 use fixed::shift;
+use fixed::small;
 use slices::copy;
 
 // A lag's whole samples, and the thirds of a sample that are left, -1, 0 or 1.
@@ -134,95 +135,29 @@ fn window(taps: &[i16], phase: usize) -> [i16; 24]
     out
 }
 
-// A tap's size.
-fn size(tap: i16) -> i32
-    ensures { λ r. ⌜ r ≡ pos (natAbs tap) ⌝ }
+// Whether the first sixteen taps are small, and the last eight.
+fn narrow(taps: &[i16]) -> bool
+    requires { ⌜ length (now taps) ≡ 24 ⌝ }
+    ensures { λ r. ⌜ r ≡ Window.narrow (now (taps .entry)) ⌝ }
 {
-    let t = tap as i32;
-    if t < 0 { -t } else { t }
-}
-
-// Whether the sizes of count taps from first on add up to at most 65,535: then a sum of products by them is one of 32 bits, whatever the signal.
-fn small(taps: [i16; 24], first: usize, count: usize) -> bool
-    requires { ⌜ first + count ≤ 24 ⌝ }
-    ensures { λ r. ⌜ r ≡ Window.small taps first count ⌝ }
-{
-    let mut sum = 0i32;
-    for k in 0..count {
-        sum += size(taps[first + k]);
-    }
-    sum <= 65535
-}
-
-// Whether the first sixteen are so, and the last eight.
-fn narrow(taps: [i16; 24]) -> bool
-    ensures { λ r. ⌜ r ≡ Window.narrow taps ⌝ }
-{
-    if small(taps, 0, 16) {
-        return small(taps, 16, 8);
+    if small(&taps[..16]) {
+        return small(&taps[16..]);
     }
     false
 }
 
-// The sum of the first sixteen products.
-fn sixteen(taps: &[i16], signal: &[i16], from: usize) -> i32
-    requires { ⌜ (length (now taps) ≡ 24) × (from + 24 ≤ length (now signal)) × (Window.small (now taps) 0 16 ≡ true) ⌝ }
-    ensures { λ r. ⌜ r ≡ Window.products (now (taps .entry)) (now (signal .entry)) from 0 16 ⌝ }
-{
-    let mut sum = 0i32;
-    for k in 0..16 {
-        sum += (signal[from + k] as i32) * (taps[k] as i32);
-    }
-    sum
-}
-
-// And of the last eight.
-fn eight(taps: &[i16], signal: &[i16], from: usize) -> i32
-    requires { ⌜ (length (now taps) ≡ 24) × (from + 24 ≤ length (now signal)) × (Window.small (now taps) 16 8 ≡ true) ⌝ }
-    ensures { λ r. ⌜ r ≡ Window.products (now (taps .entry)) (now (signal .entry)) from 16 8 ⌝ }
-{
-    let mut sum = 0i32;
-    for k in 16..24 {
-        sum += (signal[from + k] as i32) * (taps[k] as i32);
-    }
-    sum
-}
-
-// The sum of all, product by product.
-fn wide(taps: &[i16], signal: &[i16], from: usize) -> i64
-    requires { ⌜ (length (now taps) ≡ 24) × (from + 24 ≤ length (now signal)) ⌝ }
-    ensures { λ r. ⌜ r ≡ Window.sample (now (taps .entry)) (now (signal .entry)) from ⌝ }
-{
-    let mut value = 0i64;
-    for k in 0..24 {
-        value = fold(value, mul(signal[from + k], taps[k]));
-    }
-    value
-}
-
-// One sample between those of a signal, by the two-sided filter. Sums of 32 bits are taken eight products at a time, so they are made where they fit.
-fn interpolated_sample(taps: &[i16], narrow: bool, signal: &[i16], from: usize) -> i64
-    requires { ⌜ (length (now taps) ≡ 24) × (narrow ≡ Window.narrow (now taps)) × (from + 24 ≤ length (now signal)) ⌝ }
-    ensures { λ r. ⌜ r ≡ Window.sample (now (taps .entry)) (now (signal .entry)) from ⌝ }
-{
-    if narrow {
-        fold(
-            (sixteen(taps, signal, from) as i64) * 2,
-            (eight(taps, signal, from) as i64) * 2,
-        )
-    } else {
-        wide(taps, signal, from)
-    }
-}
-
-// The 80 samples, by a window of taps.
+// The 80 samples, by a window of taps: in two runs, since all of them together are seldom small. The lengths stand here so that the compiler sees them.
 fn predict_from(taps: &[i16], narrow: bool, exc: &mut [i16], at: usize, delay: usize)
     requires { ⌜ (length (now taps) ≡ 24) × (narrow ≡ Window.narrow (now taps)) × (154 ≤ at) × (at + 80 ≤ length (now exc)) × (20 ≤ delay) × (delay ≤ 144) ⌝ }
     ensures { λ _. ⌜ now (exc .exit) ≡ rewritten (Window.predicted (now (taps .entry)) delay at) at (now (exc .entry)) 80 ⌝ }
 {
     for n in 0..80 {
         let place = at + n;
-        let value = interpolated_sample(taps, narrow, &exc[..], place - delay - 9);
+        let from = place - delay - 9;
+        let middle = from + 16;
+        let end = from + 24;
+        let first = fold_products(0, &taps[..16], narrow, &exc[from..middle]);
+        let value = fold_products(first, &taps[16..], narrow, &exc[middle..end]);
         let y = hi(sat(fold(value, 32768)));
         exc[place] = y;
     }
@@ -234,7 +169,7 @@ pub fn predict(words: &[i16], exc: &mut [i16], at: usize, lag: Lag)
     ensures { λ _. ⌜ now (exc .exit) ≡ Pitch.predict (Pitch.interp (now (words .entry))) (now (exc .entry)) at lag ⌝ }
 {
     let taps = window(interp(words), phase(lag));
-    let narrow = narrow(taps);
+    let narrow = narrow(&taps[..]);
     predict_from(&taps[..], narrow, exc, at, delay(lag));
 }
 
@@ -254,7 +189,11 @@ fn sharpen_from(taps: &[i16], narrow: bool, buf: &mut [i16], first: usize, gain:
     let count = 80 - first;
     for n in 0..count {
         let place = 21 + first + n;
-        let value = interpolated_sample(taps, narrow, &buf[..], 2 + n);
+        let from = 2 + n;
+        let middle = from + 16;
+        let end = from + 24;
+        let front = fold_products(0, &taps[..16], narrow, &buf[from..middle]);
+        let value = fold_products(front, &taps[16..], narrow, &buf[middle..end]);
         let y = mixed(value, gain, buf[place]);
         buf[place] = y;
     }
@@ -282,7 +221,7 @@ pub fn sharpen(words: &[i16], code: &mut [i16], lag: Lag, gain: i16)
     }
     let mut buf = guarded(&code[..]);
     let taps = window(interp(words), phase(lag));
-    let narrow = narrow(taps);
+    let narrow = narrow(&taps[..]);
     sharpen_from(&taps[..], narrow, &mut buf, first, gain);
     copy(&mut code[..], &buf[21..]);
 }

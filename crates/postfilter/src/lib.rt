@@ -3,7 +3,6 @@ ghost use mathlib.Core.Path.{_≡_};
 ghost use Prim.Native.Nat.{_≤_};
 ghost use mathlib.Core.List.{map};
 ghost use lib.ListN.{length};
-ghost use lib.IntN.{pos, negsuc};
 ghost use Rattle.fixed.specs.Fixed as Fixed;
 ghost use Rattle.postfilter.specs.Postfilter as Postfilter;
 ghost use Rattle.postfilter.specs.Unscaled as Unscaled;
@@ -175,24 +174,11 @@ fn sections(filter: OutputFilter, words: &[i16], block: &mut [i16]) -> OutputFil
     state
 }
 
-// A 32-bit number saturated to 16 bits.
-fn saturated(v: i32) -> i32
-    ensures { λ r. ⌜ r ≡ Fixed.clamp (negsuc 32767) (pos 32767) v ⌝ }
-{
-    if v < -32768 {
-        -32768
-    } else if 32767 < v {
-        32767
-    } else {
-        v
-    }
-}
-
-// The final output scaling: in 32 bits, which hold every product, so that several samples are scaled at a time.
+// The final output scaling.
 fn scaled(value: i16) -> i16
     ensures { λ r. ⌜ r ≡ Postfilter.scaled value ⌝ }
 {
-    saturated(((value as i32) * (OUT_SCALE as i32) + 8192) >> 14) as i16
+    rounded(forward(0, value, OUT_SCALE), 1)
 }
 
 // Scale a block: a loop of its own, since what the sections carry from sample to sample would keep it to one at a time.

@@ -1,7 +1,7 @@
 -- The window holds the taps of the lag's phase, so what it predicts is the filter's; each sample comes from at most 153 and at least 10 before it.
 use borrow.Author.Needs.{needs}
 use native.Mathlib.Omega.{arith}
-use mathlib.Core.Path.{_∙_, ap}
+use mathlib.Core.Path.{sym, _∙_, ap}
 use Prim.Native.Nat.{ℕ, _≤_}
 use lib.ListN.{length}
 use Rattle.sequence.specs.Rewritten.{rewritten}
@@ -24,11 +24,14 @@ window-requires c κs =
     let s = c .before .before in
     (ap length (c .before .interp .ensures) ∙ length-interp (s .args .words .now) (s .pre .0), rw (c .phase .ensures) (sane-phase (s .args .lag) (s .pre .3)))
 
+slice-aggregate-narrow : tie.Need-slice-aggregate-narrow
+slice-aggregate-narrow c = sym (c .before .window .ensures .size)
+
 narrow-requires : tie.Need-narrow-requires
-narrow-requires c κs = search needs
+narrow-requires c κs = c .before .window .ensures .size
 
 slice-aggregate-predict-from : tie.Need-slice-aggregate-predict-from
-slice-aggregate-predict-from c = search needs
+slice-aggregate-predict-from c = sym (c .before .before .before .window .ensures .size)
 
 delay-requires : tie.Need-delay-requires
 delay-requires c κs = search needs
@@ -36,7 +39,7 @@ delay-requires c κs = search needs
 -- what the calls before the last gave
 module _ (d : tie.After-delay) where
   abbrev w : tie.After-window
-  w = d .before .before .before .before
+  w = d .before .before .before .before .before
 
   abbrev s : tie.Start
   s = w .before .before .before
@@ -73,6 +76,7 @@ predict-spec =
     interp-requires
     phase-requires
     window-requires
+    slice-aggregate-narrow
     narrow-requires
     slice-aggregate-predict-from
     delay-requires

@@ -48,11 +48,14 @@ window-requires c κs =
     let s = d .before in
     (ap length (c .before .interp .ensures) ∙ length-interp (s .args .words .now) (s .pre .0), rw (c .phase .ensures) (sane-phase (s .args .lag) (s .pre .2)))
 
+slice-aggregate-narrow : tie.Need-slice-aggregate-narrow
+slice-aggregate-narrow c = sym (c .before .window .ensures .size)
+
 narrow-requires : tie.Need-narrow-requires
-narrow-requires c κs = search needs
+narrow-requires c κs = c .before .window .ensures .size
 
 slice-aggregate-sharpen-from : tie.Need-slice-aggregate-sharpen-from
-slice-aggregate-sharpen-from c = search needs
+slice-aggregate-sharpen-from c = sym (c .before .before .before .window .ensures .size)
 
 slice-aggregate-sharpen-from-2 : tie.Need-slice-aggregate-sharpen-from-2
 slice-aggregate-sharpen-from-2 c = search needs
@@ -60,7 +63,7 @@ slice-aggregate-sharpen-from-2 c = search needs
 -- what the calls before gave
 module _ (b : tie.After-buf) where
   abbrev w : tie.After-window
-  w = b .before .before .before
+  w = b .before .before .before .before
 
   abbrev g : tie.After-guarded
   g = w .before .before .before
@@ -120,6 +123,7 @@ sharpen-spec =
     interp-requires
     phase-requires
     window-requires
+    slice-aggregate-narrow
     narrow-requires
     slice-aggregate-sharpen-from
     slice-aggregate-sharpen-from-2

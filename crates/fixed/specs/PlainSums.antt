@@ -1,12 +1,12 @@
 -- Plain sums of integers, `total _+ℤ_ s f n`, and sums in the accumulator, which are the plain ones wrapped once.
 use native.Mathlib.Omega.{arith}
 use mathlib.Core.Path.{_≡_, refl, sym, ap, _∙_}
-use Prim.Native.Nat.{ℕ, zero, suc, _+_, _-_, _<_}
-use lib.IntN.{ℤ, pos, _+ℤ_, _*ℤ_, +ℤ-idr}
+use Prim.Native.Nat.{ℕ, zero, suc, _+_, _-_, _<_, _≤_}
+use lib.IntN.{ℤ, pos, _+ℤ_, _*ℤ_, +ℤ-idl, +ℤ-idr, +ℤ-comm}
 use Rattle.sequence.specs.Total.{total, total-same, total-split, total-first}
 use Rattle.fixed.specs.Fixed.{acc, fold}
 use Rattle.fixed.specs.Integers.{add-swap, mul-add}
 use Rattle.fixed.specs.Wrap.{wrap-wrap, wrap-add}
 
 module _ (f : ℕ → ℤ) where
   -- a term may come first or last
@@ -48,3 +48,17 @@ module _ (f : ℕ → ℤ) where
   pub sum-wrapped : (s t : ℤ) (n : ℕ) → acc s ≡ acc t → total fold s f (suc n) ≡ acc (total _+ℤ_ t f (suc n))
   unfolding total fold
   sum-wrapped s t n e = sym (wrap-wrap 40 (total fold s f n +ℤ f n)) ∙ sum-wraps s t (suc n) e
+
+  -- so a start that is wrapped first changes nothing then
+  pub sum-acc : (s : ℤ) (n : ℕ) → 1 ≤ n → total fold (acc s) f n ≡ total fold s f n
+  sum-acc s n h =
+      let e : n ≡ suc (n - 1) = omega arith in
+      rw e (sum-wrapped (acc s) s (n - 1) (wrap-wrap 40 s) ∙ sym (sum-wrapped s s (n - 1) refl))
+
+  -- and the terms may be summed plainly, from 0, and come in together
+  pub sum-together : (s : ℤ) (n : ℕ) → 1 ≤ n → fold s (total _+ℤ_ (pos 0) f n) ≡ total fold s f n
+  unfolding fold
+  sum-together s n h =
+      let e : n ≡ suc (n - 1) = omega arith in
+      let p : total _+ℤ_ s f n ≡ s +ℤ total _+ℤ_ (pos 0) f n = ap (λ (z : ℤ). total _+ℤ_ z f n) (sym (+ℤ-idl s)) ∙ sum-from (pos 0) s n ∙ +ℤ-comm (total _+ℤ_ (pos 0) f n) s in
+      ap acc (sym p) ∙ sym (ap (total fold s f) e ∙ sum-wrapped s s (n - 1) refl ∙ ap (λ (k : ℕ). acc (total _+ℤ_ s f k)) (sym e))

@@ -5,10 +5,10 @@ use lib.IntN.{ℤ, pos, natAbs, _-ℤ_}
 use mir.Syntax.{w16, w32}
 use mir.Val.{SFits, toZ, ofZ}
 use mir.ValLaws.{toZ-ofZ}
 use Rattle.fixed.specs.Abs.{nonneg-is, neg-is, minus-is}
 use Rattle.fixed.specs.Machine.{sfits-abs, abs-sfits, widens-to, widened-to}
-use Rattle.pitch.proofs.size.Statement.{statement}
-use Rattle.pitch.proofs.size.Tie as tie
+use Rattle.fixed.proofs.size.Statement.{statement}
+use Rattle.fixed.proofs.size.Tie as tie
 
 cast-t : tie.Need-cast-t
 cast-t c = widens-to w32 tt (c .fits .tap)

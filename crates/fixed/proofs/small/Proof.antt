@@ -4,36 +4,32 @@ use native.Mathlib.Omega.{arith}
 use mathlib.Core.Path.{_≡_, refl, _∙_, ap}
 use Prim.Native.Nat.{ℕ, _+_, _-_, _*_, _≤_}
 use lib.IntN.{ℤ, pos, natAbs, _+ℤ_}
-use lib.ListN.{getD}
+use lib.ListN.{length, getD}
 use lib.Signed.{leZ}
 use mir.Syntax.{w16, w32}
 use mir.Val.{toZ, ofZ}
 use mir.ValLaws.{toZ-pos}
 use Rattle.sequence.specs.Total.{total}
 use Rattle.fixed.specs.Machine.{back, sfits-abs, abs-sfits}
-use Rattle.pitch.specs.Window as Window
-use Rattle.pitch.proofs.Filter.{sizes-more}
-use Rattle.pitch.proofs.small.Statement.{statement}
-use Rattle.pitch.proofs.small.Tie as tie
+use Rattle.fixed.specs.Runs.{sizes, sizes-more, small, MOST}
+use Rattle.fixed.proofs.small.Statement.{statement}
+use Rattle.fixed.proofs.small.Tie as tie
 
 abbrev Inv-loop : tie.InvT-loop
-Inv-loop first count taps sum₀ k₀ sum k = (k ≤ count) × (Window.sizes taps first k ≤ 32768 * k) × (sum ≡ Window.sizes taps first k)
+Inv-loop taps sum₀ k₀ k-end sum k = (k ≤ length taps) × (sizes taps k ≤ 32768 * k) × (sum ≡ sizes taps k)
 
 abbrev μ-loop : tie.MeasureT-loop
-μ-loop first count taps sum₀ k₀ sum k = count - k
+μ-loop taps sum₀ k₀ k-end sum k = length taps - k
 
 loop-holds : tie.Need-loop-holds Inv-loop μ-loop
-unfolding Window.sizes total
+unfolding sizes total
 loop-holds c = (omega arith, omega arith, refl)
-
-add-size : tie.Need-add-size Inv-loop μ-loop
-add-size c = omega arith
 
 mul-size : tie.Need-mul-size Inv-loop μ-loop
 mul-size c = omega arith
 
-array-copy-out-size : tie.Need-array-copy-out-size Inv-loop μ-loop
-array-copy-out-size c = omega arith
+shared-slice-copy-out-size : tie.Need-shared-slice-copy-out-size Inv-loop μ-loop
+shared-slice-copy-out-size c = omega arith
 
 size-requires : tie.Need-size-requires Inv-loop μ-loop
 size-requires c κs = search needs
@@ -44,20 +40,19 @@ module _ (c : tie.After-size Inv-loop μ-loop) where
   l = c .before .before .before
 
   abbrev n : ℕ
-  n = Window.sizes (l .before .args .t1) (l .before .args .first) (l .loop .k + 1)
+  n = sizes (l .before .args .taps .now) (l .loop .k + 1)
 
   abbrev z : ℤ
-  z = getD (l .before .args .t1) (l .before .args .first + l .loop .k) (pos 0)
+  z = getD (l .before .args .taps .now) (l .loop .k) (pos 0)
 
   n-le : n ≤ 32768 * (l .loop .k + 1)
-  n-le =
-      omega (arith, sizes-more (l .before .args .t1) (l .before .args .first) (l .loop .k), l .loop .inv .1, abs-sfits w16 z (record { sfits = c .before .size-arg .given }))
+  n-le = omega (arith, sizes-more (l .before .args .taps .now) (l .loop .k), l .loop .inv .1, abs-sfits w16 z (record { sfits = c .before .size-arg .given }))
 
   next : toZ w32 (l .loop .sum) +ℤ toZ w32 (ofZ w32 (c .size .result)) ≡ pos n
   next =
       let r : toZ w32 (ofZ w32 (c .size .result)) ≡ pos (natAbs z) = back w32 (c .size .result) (c .size .ok) ∙ simp (back w16 z (c .before .size-arg .given)) at (c .size .ensures) in
-      let s : toZ w32 (l .loop .sum) ≡ pos (Window.sizes (l .before .args .t1) (l .before .args .first) (l .loop .k)) = toZ-pos w32 (l .loop .sum) (omega (arith, l .loop .inv .1)) ∙ ap pos (l .loop .inv .2) in
-      rw (r, s) (ap pos (omega (arith, sizes-more (l .before .args .t1) (l .before .args .first) (l .loop .k))))
+      let s : toZ w32 (l .loop .sum) ≡ pos (sizes (l .before .args .taps .now) (l .loop .k)) = toZ-pos w32 (l .loop .sum) (omega (arith, l .loop .inv .1)) ∙ ap pos (l .loop .inv .2) in
+      rw (r, s) (ap pos (omega (arith, sizes-more (l .before .args .taps .now) (l .loop .k))))
 
 add-sum : tie.Need-add-sum Inv-loop μ-loop
 add-sum c = rw (next c) (sfits-abs w32 _ (omega (arith, n-le c)))
@@ -72,12 +67,12 @@ loop-again : tie.Need-loop-again Inv-loop μ-loop
 loop-again c = (omega arith, n-le c, ap (ofZ w32) (next c))
 
 returns : tie.Need-returns Inv-loop μ-loop
-unfolding Window.small
+unfolding small
 returns c =
     let l = c .before in
-    let a = l .before .args in
-    let e : l .loop .k ≡ a .count = omega arith in
-    ap (λ (z : ℤ). leZ z (pos Window.MOST)) (toZ-pos w32 (l .loop .sum) (omega (arith, l .loop .inv .1)) ∙ ap pos (l .loop .inv .2 ∙ ap (Window.sizes (a .t1) (a .first)) e))
+    let t = l .before .args .taps .now in
+    let e : l .loop .k ≡ length t = omega arith in
+    ap (λ (z : ℤ). leZ z (pos MOST)) (toZ-pos w32 (l .loop .sum) (omega (arith, l .loop .inv .1)) ∙ ap pos (l .loop .inv .2 ∙ ap (sizes t) e))
 
 pub small-spec : {M : Type 1} → statement M
 small-spec =
@@ -86,9 +81,8 @@ small-spec =
     Inv-loop
     μ-loop
     loop-holds
-    add-size
     mul-size
-    array-copy-out-size
+    shared-slice-copy-out-size
     size-requires
     add-sum
     add-k
