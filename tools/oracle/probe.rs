@@ -2,6 +2,8 @@
 //! This module is a descendant of `celp`, so it sees what is private there; main.rs reaches it through `Native`.
 use super::fixed::*;
 use super::{codebook, excitation, lsp, pitch, postfilter, synth};
+use crate::celp::gain::GainState;
+use crate::celp::spectral::{to_lsp, Spectral};
 use crate::celp::{bits, post_fec, Native};
 use crate::random::Random;
 
@@ -27,6 +29,9 @@ fn questions(module: &str, seed: u64) -> Vec<Question> {
         "codebook" => codebook_questions(&mut r),
         "excitation" => excitation_questions(&mut r),
         "postfilter" => postfilter_questions(&mut r),
+        "narrow" => narrow_questions(&mut r),
+        "spectral" => spectral_questions(&mut r),
+        "gain" => gain_questions(&mut r),
         _ => panic!("no questions for {module}"),
     }
 }
@@ -37,10 +42,12 @@ fn answer(module: &str, q: &[i64]) -> Vec<i64> {
         "synth" => synth_answer(q),
         "bits" => bits_answer(q),
         "lsp" => lsp_answer(q),
-        "pitch" => pitch_answer(q),
+        "pitch" | "narrow" => pitch_answer(q),
         "codebook" => codebook_answer(q),
         "excitation" => excitation_answer(q),
         "postfilter" => postfilter_answer(q),
+        "spectral" => spectral_answer(q),
+        "gain" => gain_answer(q),
         _ => panic!("no answers for {module}"),
     }
 }
@@ -103,6 +110,15 @@ fn fixed_questions(r: &mut Random) -> Vec<Question> {
     }
     for _ in 0..60 {
         all.push(vec![9, r.signed(40), r.below(80) as i64 - 40]);
+    }
+    // beyond what a caller asks for: a release build takes the low six bits of the amount
+    for v in [1, -1, 64, -32768, i32::MAX as i64, 1 << 39, i64::MAX, i64::MIN] {
+        for s in [41, -41, 62, -62, 63, -63, 64, -64, 65, -65, 100, -100, i32::MAX as i64, -(i32::MAX as i64), i32::MIN as i64] {
+            all.push(vec![9, v, s]);
+        }
+    }
+    for _ in 0..60 {
+        all.push(vec![9, r.signed(64), r.signed(32)]);
     }
     for code in 0..256 {
         all.push(vec![10, code + 2, 3, 16]);
@@ -193,8 +209,8 @@ fn bits_questions(r: &mut Random) -> Vec<Question> {
 
 pub const FIELDS: usize = 24;
 
-// The fields of a frame, mod.rs's two changes made; none where padding is set.
-pub fn fields(payload: &[u8; 20]) -> Option<[u16; FIELDS]> {
+// The two halves of a frame, mod.rs's two changes made; none where padding is set.
+fn params(payload: &[u8; 20]) -> Option<bits::FrameParams> {
     let mut params = post_fec::unpack(payload).ok()?;
     let mut low = 0;
     for k in 74..78 {
@@ -202,8 +218,13 @@ pub fn fields(payload: &[u8; 20]) -> Option<[u16; FIELDS]> {
     }
     params.halves[1].gain_low[1] = Some(low);
     params.halves[0].absolute_pitch ^= 3;
+    Some(params)
+}
+
+// Its fields as numbers.
+pub fn fields(payload: &[u8; 20]) -> Option<[u16; FIELDS]> {
     let mut out = Vec::new();
-    for half in &params.halves {
+    for half in &params(payload)?.halves {
         out.extend(half.gain_low.map(|g| g.unwrap() as u16));
         out.extend(half.code);
         out.extend(half.gain_high.map(|g| g as u16));
@@ -222,12 +243,16 @@ pub fn fields(payload: &[u8; 20]) -> Option<[u16; FIELDS]> {
     out.try_into().ok()
 }
 
-// the number, the fields, and where accepted the payload, which the packer must give back
+// the number, the fields, and where accepted the payload, which the packer must give back, and the four gain indexes
 fn bits_answer(q: &[i64]) -> Vec<i64> {
     let payload: Vec<u8> = q.iter().map(|&x| x as u8).collect();
-    match fields(&payload.try_into().unwrap()) {
-        None => [vec![6], vec![0; FIELDS]].concat(),
-        Some(f) => [vec![0], f.map(i64::from).to_vec(), q.to_vec()].concat(),
+    let payload: [u8; 20] = payload.try_into().unwrap();
+    match (fields(&payload), params(&payload)) {
+        (Some(f), Some(p)) => {
+            let gains = p.halves.iter().flat_map(|h| [0, 1].map(|sub| h.gain_index(sub) as i64));
+            [vec![0], f.map(i64::from).to_vec(), q.to_vec(), gains.collect()].concat()
+        }
+        _ => [vec![6], vec![0; FIELDS]].concat(),
     }
 }
 
@@ -245,6 +270,16 @@ fn lsp_questions(r: &mut Random) -> Vec<Question> {
         }
         if n == 0 {
             lsf.fill(25682);
+        }
+        all.push([vec![0], lsf].concat());
+    }
+    // up to the largest word, past the table's end
+    for n in 0..40 {
+        let mut lsf: Vec<i64> = (0..10).map(|_| r.below(32768) as i64).collect();
+        match n {
+            0 => lsf.fill(32767),
+            1 => lsf = (25732..25742).collect(),
+            _ => lsf[n % 10] = 25683 + r.below(7085) as i64,
         }
         all.push([vec![0], lsf].concat());
     }
@@ -440,4 +475,168 @@ fn postfilter_answer(q: &[i64]) -> Vec<i64> {
     let mut block = samples(q[0], 16);
     filter.run(&mut block);
     numbers(&block)
+}
+
+// pitch's prediction and sharpening over a set with small taps
+fn narrow_questions(r: &mut Random) -> Vec<Question> {
+    pitch_questions(r).into_iter().filter(|q| 2 < q.len()).collect()
+}
+
+fn bits_of(x: f32) -> i64 {
+    x.to_bits() as i64
+}
+
+fn floats(q: &[i64]) -> Vec<f32> {
+    q.iter().map(|&n| f32::from_bits(n as u32)).collect()
+}
+
+fn float_numbers<'a>(x: impl IntoIterator<Item = &'a f32>) -> Vec<i64> {
+    x.into_iter().map(|&x| bits_of(x)).collect()
+}
+
+// A float of any bits below a size, its sign too.
+fn float_below(r: &mut Random, size: f32) -> f32 {
+    let x = f32::from_bits(r.below(size.to_bits() as u64 + 1) as u32);
+    if r.below(2) == 0 {
+        x
+    } else {
+        -x
+    }
+}
+
+// A float between two others.
+fn between(r: &mut Random, low: f32, high: f32) -> f32 {
+    low + (high - low) * (r.below(1 << 24) as f32 / 16777216.0)
+}
+
+// Line spectral frequencies as a residual has them: rising, and at the top where high.
+fn frequencies(r: &mut Random, high: bool) -> Vec<f32> {
+    (0..10)
+        .map(|k| {
+            let mean = if high { 24000.0 + 200.0 * k as f32 } else { 2300.0 * (k + 1) as f32 };
+            mean + between(r, -1500.0, 1500.0)
+        })
+        .collect()
+}
+
+// floats by their bits. 0 residual of stage1, stage2_low and stage2_high; 1 predict of mode, 30 of history, ten of residual;
+// 2 to_lsp of ten; 3 the history at the start; 4 push of 30 and ten
+fn spectral_questions(r: &mut Random) -> Vec<Question> {
+    let mut all = vec![vec![0, 0, 0, 0], vec![0, 127, 63, 63], vec![0, 0, 63, 0], vec![0, 127, 0, 63]];
+    for _ in 0..96 {
+        all.push(vec![0, r.below(128) as i64, r.below(64) as i64, r.below(64) as i64]);
+    }
+    for n in 0..240 {
+        let mut x: Vec<f32> = Vec::new();
+        for part in 0..4 {
+            x.extend(match n % 8 {
+                0 | 1 => frequencies(r, false),
+                // most of them at the top, where the ceiling undoes the last gap
+                2 | 3 => frequencies(r, true),
+                // some fall back to the floor, some equal each other
+                4 => frequencies(r, false).iter().map(|x| (x / 4000.0).round() * 4000.0 - 8000.0).collect(),
+                // the other way round
+                5 => frequencies(r, part == 0).into_iter().rev().collect(),
+                6 => (0..10).map(|_| float_below(r, 131072.0)).collect(),
+                _ => (0..10).map(|_| between(r, -131072.0, 131072.0)).collect(),
+            });
+        }
+        match n {
+            0 => x.fill(0.0),
+            8 => x.fill(-0.0),
+            16 => x.fill(131072.0),
+            24 => x.fill(-131072.0),
+            32 => x.fill(f32::from_bits(1)),
+            _ => {}
+        }
+        all.push([vec![1, (n / 8 % 2) as i64], float_numbers(&x)].concat());
+    }
+    for n in 0..120 {
+        let x: Vec<f32> = (0..10)
+            .map(|k| match n % 6 {
+                // ties, rising; ties anywhere
+                0 => (2500 * k + r.below(2500) as usize) as f32 + 0.5,
+                1 => r.below(26000) as f32 - 100.5,
+                // next to a tie
+                2 => f32::from_bits(((2500 * k + r.below(2500) as usize) as f32 + 0.5).to_bits() - 1 + 2 * r.below(2) as u32),
+                3 => between(r, 25600.0, 25800.0),
+                4 => float_below(r, 3e10),
+                _ => between(r, -1000.0, 33000.0),
+            })
+            .collect();
+        all.push([vec![2], float_numbers(&x)].concat());
+    }
+    all.push([vec![2], float_numbers(&[0.5, 1.5, 2.5, 3.5, 25681.5, 25682.5, 25683.5, 32767.5, -0.5, f32::MAX])].concat());
+    all.push([vec![2], vec![bits_of(25682.0); 10]].concat());
+    all.push([vec![2], float_numbers(&[-0.0, -1.5, 0.5, -2.5, 1.5, 0.0, 2.5, 1.0, 3.5, -3.5])].concat());
+    all.push(vec![3]);
+    for _ in 0..8 {
+        let x: Vec<f32> = (0..40).map(|_| float_below(r, 131072.0)).collect();
+        all.push([vec![4], float_numbers(&x)].concat());
+    }
+    all
+}
+
+fn spectral_answer(q: &[i64]) -> Vec<i64> {
+    let history = |x: &[f32]| -> [[f32; 10]; 3] { std::array::from_fn(|p| std::array::from_fn(|k| x[10 * p + k])) };
+    match q[0] {
+        0 => {
+            let mut half = params(&[0; 20]).unwrap().halves[0].clone();
+            (half.stage1, half.stage2_low, half.stage2_high) = (q[1] as u8, q[2] as u8, q[3] as u8);
+            float_numbers(&Spectral::residual(&half))
+        }
+        1 => {
+            let x = floats(&q[2..]);
+            float_numbers(&Spectral::predict(&history(&x), &x[30..].try_into().unwrap(), q[1] as u8))
+        }
+        2 => numbers(&to_lsp(&floats(&q[1..]).try_into().unwrap())),
+        3 => float_numbers(Spectral::default().history.as_flattened()),
+        _ => {
+            let x = floats(&q[1..]);
+            let mut s = Spectral { history: history(&x) };
+            s.push(x[30..].try_into().unwrap());
+            float_numbers(s.history.as_flattened())
+        }
+    }
+}
+
+// 0 decode of a gain index, four of history by their bits and the 80 of a code; 1 the history at the start
+fn gain_questions(r: &mut Random) -> Vec<Question> {
+    let mut all = vec![vec![1]];
+    for n in 0..320 {
+        let index = if n < 128 { n } else { r.below(128) as i64 };
+        let history: Vec<f32> = (0..4)
+            .map(|_| match n % 8 {
+                6 => float_below(r, 131072.0),
+                7 => between(r, -16.0, 16.0),
+                _ => between(r, -5.0, 0.5),
+            })
+            .collect();
+        // pulses, or every place filled, of every size
+        let size = r.below(17);
+        let pulses = if n % 4 == 0 { 80 } else { r.below(8) };
+        let mut code = vec![0; 80];
+        for k in 0..pulses {
+            let place = if pulses == 80 { k } else { r.below(80) };
+            code[place as usize] = (r.below(65536) as i64 - 32768) >> size;
+        }
+        match n {
+            0 => code.fill(-32768),
+            4 => code.fill(1),
+            8 => code.fill(0),
+            _ => {}
+        }
+        all.push([vec![0, index], float_numbers(&history), code].concat());
+    }
+    all
+}
+
+// the pitch gain, the code gain, the history
+fn gain_answer(q: &[i64]) -> Vec<i64> {
+    if q[0] == 1 {
+        return float_numbers(&Native::default().gain.history);
+    }
+    let mut state = GainState { history: floats(&q[2..6]).try_into().unwrap() };
+    let gains = state.decode(q[1] as usize, &words(&q[6..]).try_into().unwrap());
+    [vec![gains.pitch as i64, gains.code as i64], float_numbers(&state.history)].concat()
 }

@@ -1,6 +1,6 @@
 -- Numbers out of a line of text: decimal digits, with a minus in front or none; a byte that sorts before the digits ends a number.
-use Prim.Native.Nat.{ℕ, _+_, _*_, _%_, _<_, _≤_}
-use mathlib.Core.Path.{_≡_}
+use Prim.Native.Nat.{ℕ, suc, _+_, _*_, _%_, _<_, _≤_}
+use mathlib.Core.Path.{_≡_, refl}
 use mathlib.Core.List.{List, [], _∷_}
 use mathlib.Core.Bool.{Bool, true, false, cond}
 use native.Mathlib.Numerals.{add-one}
@@ -8,7 +8,10 @@ use lib.Dec.{eqb, ltb, leb}
 use lib.IntN.{ℤ, pos, negsuc, _-ℤ_}
 use lib.ListN.{length, getD, set, drop, replicate, drop-of-length-le}
 use lib.Seq.{drop-cons}
-use Rattle.fixed.specs.Fixed.{low}
+use lib.Signed.{mag}
+use lib.Ieee.{Float, binary32, ofBits}
+use Rattle.sequence.specs.Repeated.{repeated}
+use Rattle.fixed.specs.Fixed.{low, shift, wrap, signed as signedIn, residue}
 use Rattle.questions.specs.declared.Question.{Question}
 use Rattle.questions.specs.declared.Reading.{Reading}
 
@@ -59,6 +62,29 @@ line s from = lineFrom none (drop from s) from
 -- a number cut to a word
 unfoldable pub wordAt : List ℤ → ℕ → ℕ → ℤ
 wordAt n from k = low (getD n (from + k) (pos 0))
+
+-- the bits that a number says, and the float that has them
+unfoldable pub bits : ℤ → ℕ
+bits x = mag x % 4294967296
+
+unfoldable pub floatAt : List ℤ → ℕ → ℕ → Float
+floatAt n from k = ofBits binary32 (bits (getD n (from + k) (pos 0)))
+
+-- ---- samples that a seed gives: x' = (x * 31 + 7) mod 65536, from the seed on, each read with a sign, every third divided by 16
+unfoldable pub next : ℕ → ℕ
+next x = (x * 31 + 7) % 65536
+
+unfoldable pub sample : ℕ → ℕ → ℤ
+sample k x = cond (eqb (k % 3) 0) (low (shift (low (pos x)) (negsuc 3))) (low (pos x))
+
+unfoldable pub sampleAt : ℕ → ℕ → ℤ
+unfolding repeated
+sampleAt seed k = sample k (repeated (λ n x. next x) (suc k) (seed % 65536))
+
+-- of the seed 2 the first number is 69, the second 2,146, the third 997
+example-samples : (sampleAt 2 0 ≡ pos 4) × (sampleAt 2 1 ≡ pos 2146) × (sampleAt 2 2 ≡ pos 997)
+unfolding sampleAt sample next shift wrap signedIn residue
+example-samples = (refl, refl, refl)
 
 -- ---- a byte more, the line's end, the text's end
 module _ (r : Reading) (s : List ℕ) (i : ℕ) where

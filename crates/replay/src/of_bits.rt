@@ -1,4 +1,4 @@
-// The answers of bits: a payload; out come its number and fields, and where it is accepted the payload that the packer makes of them.
+// The answers of bits: a payload; out come its number and fields, and where it is accepted the payload that the packer makes of them and the four gain indexes.
 use bits::FrameParams;
 use bits::HalfParams;
 use bits::Unpacked;
@@ -76,6 +76,12 @@ fn say_bytes(b: &[u8]) {
     }
 }
 
+// The gain index after a blank.
+fn say_gain_index(h: HalfParams, sub: usize) {
+    io::write_all(STDOUT_FILENO, b" ");
+    io::print_decimal(STDOUT_FILENO, bits::gain_index(h, sub) as u64);
+}
+
 fn accepted(f: FrameParams) {
     let mut room = [0u8; 20];
     bits::pack(f, &mut room);
@@ -83,6 +89,10 @@ fn accepted(f: FrameParams) {
     let y = f.second;
     say_numbers(&halves(0, x, y));
     say_bytes(&room);
+    say_gain_index(x, 0);
+    say_gain_index(x, 1);
+    say_gain_index(y, 0);
+    say_gain_index(y, 1);
     end_line();
 }
 

@@ -10,8 +10,9 @@ fn wide32(x: i32) -> i64 {
     x as i64
 }
 
-fn amount(x: i16) -> i32 {
-    x as i32
+// An amount of 32 bits.
+fn amount(x: i64) -> i32 {
+    fixed::trunc32(x) as i32
 }
 
 fn divided(v: i64, by: i16, steps: u64) -> i64 {
@@ -36,7 +37,7 @@ pub fn answer(n: [i64; 128]) {
         6 => one(fixed::mul32x16(v, y)),
         7 => one(fixed::trunc32(v)),
         8 => one(wide32(fixed::exp(v))),
-        9 => one(fixed::shift(v, amount(y))),
+        9 => one(fixed::shift(v, amount(n[3]))),
         10 => one(divided(v, y, fixed::magnitude(n[4]))),
         _ => {
             let r = fixed::normalised_reciprocal(v);

@@ -5,16 +5,17 @@ mod of_excitation;
 mod of_lsp;
 mod of_pitch;
 mod of_postfilter;
-mod samples;
 
 use libc::STDIN_FILENO;
 use questions::Question;
+ghost use mathlib.Core.Path.{_≡_};
+ghost use lib.ListN.{length};
 ghost use Rattle.io.specs.Counts.{Counts};
 ghost use Rattle.tables.specs.SoundWords.{SoundWords};
 
-// 3 lsp, 4 pitch, 5 codebook, 6 excitation, 7 postfilter
-fn answer(words: &[i16], q: Question)
-    requires { ⌜ SoundWords (now words) ⌝ }
+// 3 lsp, 4 pitch, 5 codebook, 6 excitation, 7 postfilter, 8 pitch by the other set's taps
+fn answer(words: &[i16], other: &[i16], q: Question)
+    requires { ⌜ SoundWords (now words) × (length (now other) ≡ 5963) ⌝ }
 {
     let n = q.numbers;
     match n[0] {
@@ -23,42 +24,45 @@ fn answer(words: &[i16], q: Question)
         5 => of_codebook::answer(words, n),
         6 => of_excitation::answer(n),
         7 => of_postfilter::answer(words, n),
+        8 => of_pitch::answer(other, n),
         _ => questions::say(&[]),
     }
 }
 
-fn answers(words: &[i16], s: &[u8])
-    requires { ⌜ SoundWords (now words) ⌝ }
+fn answers(words: &[i16], other: &[i16], s: &[u8])
+    requires { ⌜ SoundWords (now words) × (length (now other) ≡ 5963) ⌝ }
 {
     let mut from = 0;
     while from < s.len() {
         let q = questions::line(s, from);
         from = q.next;
-        answer(words, q);
+        answer(words, other, q);
     }
 }
 
 // What is asked on standard input.
-fn asked_all(words: &[i16])
-    requires { ⌜ SoundWords (now words) ⌝ }
+fn asked_all(words: &[i16], other: &[i16])
+    requires { ⌜ SoundWords (now words) × (length (now other) ≡ 5963) ⌝ }
 {
     let mut room = [0u8; 262144];
     let n = io::read_full(STDIN_FILENO, &mut room);
-    answers(words, &room[..n]);
+    answers(words, other, &room[..n]);
 }
 
 // A set that breaks a rule has no answers.
-fn replayed(words: &[i16], bytes: &[u8]) {
+fn replayed(words: &[i16], bytes: &[u8], other: &[i16])
+    requires { ⌜ length (now other) ≡ 5963 ⌝ }
+{
     if tables::check(words, bytes) == 0 {
-        asked_all(words);
+        asked_all(words, other);
     }
 }
 
 // The file's bytes at the start of room, and how many: none of a file that is missing.
-fn read_tables(room: &mut [u8]) -> usize
+fn read_tables(name: &[u8], room: &mut [u8]) -> usize
     ensures { λ r. ⌜ Counts r (now (room .exit)) ⌝ }
 {
-    let fd = os::open_read(b"tables.bin");
+    let fd = os::open_read(name);
     if fd < 0 {
         return 0;
     }
@@ -69,9 +73,13 @@ fn read_tables(room: &mut [u8]) -> usize
 
 fn main() {
     let mut file = [0u8; 15835];
-    let n = read_tables(&mut file);
-    let mut words = [0i16; 5963];
-    if recording::check_file(&file[..n], &mut words) == 0 {
-        replayed(&words, &file[11926..15834]);
+    let m = read_tables(b"narrow.bin", &mut file);
+    let mut other = [0i16; 5963];
+    if recording::check_file(&file[..m], &mut other) == 0 {
+        let n = read_tables(b"tables.bin", &mut file);
+        let mut words = [0i16; 5963];
+        if recording::check_file(&file[..n], &mut words) == 0 {
+            replayed(&words, &file[11926..15834], &other);
+        }
     }
 }

@@ -1,8 +1,8 @@
 // The answers of pitch: an absolute code, a relative code or -1; then nothing, and out comes the lag,
 // or 2 and a seed, and out comes the prediction from its samples, or 3, a seed and a gain, and out come its samples, sharpened.
-use crate::samples::samples;
 use fixed::magnitude;
 use pitch::Lag;
+use questions::samples;
 use questions::say_line;
 ghost use mathlib.Core.Path.{_≡_};
 ghost use Prim.Native.Nat.{_<_};

@@ -1,7 +1,7 @@
 // The answers of postfilter: a seed; out come 16 of its samples, filtered after 24 that the seed 1000 on gives.
-use crate::samples::samples;
 use fixed::magnitude;
 use postfilter::OutputFilter;
+use questions::samples;
 use questions::say_line;
 ghost use mathlib.Core.Path.{_≡_};
 ghost use lib.ListN.{length};

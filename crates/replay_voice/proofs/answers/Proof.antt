@@ -5,10 +5,10 @@ use Rattle.replay_voice.proofs.answers.Statement.{statement}
 use Rattle.replay_voice.proofs.answers.Tie as tie
 
 abbrev Inv-loop : tie.InvT-loop
-Inv-loop words s from₀ from = from ≤ length s
+Inv-loop words other s from₀ from = from ≤ length s
 
 abbrev μ-loop : tie.MeasureT-loop
-μ-loop words s from₀ from = length s - from
+μ-loop words other s from₀ from = length s - from
 
 loop-holds : tie.Need-loop-holds Inv-loop μ-loop
 loop-holds c = search needs

@@ -10,7 +10,7 @@ check-requires : tie.Need-check-requires
 check-requires c κs = search needs
 
 asked-all-requires : tie.Need-asked-all-requires
-asked-all-requires c κs = sound-words (sound _ _ (sym (c .before .check .ensures) ∙ c .if1 .taken))
+asked-all-requires c κs = (sound-words (sound _ _ (sym (c .before .check .ensures) ∙ c .if1 .taken)), search needs)
 
 returns : tie.Need-returns
 returns c = search needs

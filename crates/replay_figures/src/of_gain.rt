@@ -1,0 +1,49 @@
+// The answers of gain: 0 an index, four of history and the 80 of a code; out come the gains and the history,
+// or 1, and out comes the history at the start.
+use fixed::magnitude;
+use gain::Decoded;
+use libc::STDOUT_FILENO;
+use questions::floats_from;
+use questions::say_floats;
+use questions::say_numbers;
+use questions::wide_word;
+use questions::words;
+ghost use mathlib.Core.Path.{_≡_};
+ghost use Prim.Native.Nat.{_<_};
+ghost use lib.ListN.{length};
+
+fn index(x: i64) -> usize
+    ensures { λ r. ⌜ r < 128 ⌝ }
+{
+    (magnitude(x) % 128) as usize
+}
+
+fn history(n: [i64; 128]) -> [f32; 4] {
+    let mut out = [0.0f32; 4];
+    floats_from(n, 3, &mut out);
+    out
+}
+
+fn decoded(bytes: &[u8], n: [i64; 128]) -> Decoded
+    requires { ⌜ length (now bytes) ≡ 3908 ⌝ }
+{
+    let mut code = [0i16; 80];
+    words(n, 7, &mut code);
+    gain::decode(bytes, history(n), index(n[2]), &code)
+}
+
+fn say_decoded(d: Decoded) {
+    let after = d.history;
+    say_numbers(&[wide_word(d.pitch), wide_word(d.code)]);
+    io::write_all(STDOUT_FILENO, b" ");
+    say_floats(&after);
+}
+
+pub fn answer(bytes: &[u8], n: [i64; 128])
+    requires { ⌜ length (now bytes) ≡ 3908 ⌝ }
+{
+    match n[1] {
+        0 => say_decoded(decoded(bytes, n)),
+        _ => say_floats(&gain::initial_history(bytes)),
+    }
+}
