@@ -1,0 +1,4 @@
+mod Flipped
+mod Loops
+mod Nans
+mod Whole
