@@ -1,4 +1,0 @@
-// The decoding program with a table file that is a byte too long.
-fn main() {
-    console::run();
-}

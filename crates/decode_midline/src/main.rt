@@ -1,4 +1,0 @@
-// The decoding program on a recording that ends in mid-line.
-fn main() {
-    console::run();
-}

@@ -1,4 +1,0 @@
-// The decoding program with no table file.
-fn main() {
-    console::run();
-}
