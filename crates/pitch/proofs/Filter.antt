@@ -1,20 +1,18 @@
 -- The sum over a window is the two-sided filter's, and it is made in two runs.
 use native.Mathlib.Omega.{arith}
-use mathlib.Core.Bool.{Bool, true}
 use mathlib.Core.Path.{_≡_, refl, sym, ap, _∙_, subst}
 use mathlib.Core.List.{List}
 use Prim.Native.Nat.{ℕ, zero, suc, _+_, _-_, _*_, _≤_, _<_}
 use lib.IntN.{ℤ, pos, _+ℤ_, _*ℤ_, *ℤ-zero}
 use lib.ListN.{length, getD, take, drop, length-take, length-drop}
-use lib.Seq.{take-all, length-take-le, getD-take, getD-drop}
-use Rattle.sequence.specs.All.{and-left, and-right}
+use lib.Seq.{take-all, getD-take, getD-drop}
 use Rattle.sequence.specs.Rewritten.{rewritten, rewritten-same}
 use Rattle.sequence.specs.Total.{total, total-same, total-split}
 use Rattle.fixed.specs.Fixed.{acc, fold, sat, hi, mul}
 use Rattle.fixed.specs.PlainSums.{sum-backwards, sum-zeros, sum-wraps, sum-wrapped}
 use Rattle.fixed.specs.Runs as Runs
 use Rattle.pitch.specs.Pitch as Pitch
-use Rattle.pitch.specs.Window.{Windowed, narrow, term, sample, predicted, sharpened}
+use Rattle.pitch.specs.Window.{Windowed, term, sample, predicted, sharpened}
 
 -- ---- the window's sum is the filter's
 -- a window of taps and a phase that are known by equations
@@ -85,10 +83,7 @@ module _ (taps w : List ℤ) (phase : ℕ) (d : Windowed taps phase w) where
       ap (λ (z : ℤ). Pitch.mixed z gain (getD x (21 + first + k) (pos 0)))
       (sample-is taps w x phase (2 + k) d ∙ ap (Pitch.interpolatedSample taps phase x) (omega arith)))
 
--- ---- the sum is made in two runs, the taps of the first as they are lent
-pub front-is : (w : List ℤ) → length w ≡ 24 → length (take 16 w) ≡ 16
-front-is w p = length-take-le 16 w (omega arith)
-
+-- ---- the sum is made in two runs
 module _ (w signal : List ℤ) (from : ℕ) (p : length w ≡ 24) (q : from + 24 ≤ length signal) where
   abbrev first : List ℤ
   first = take (from + 16 - from) (drop from signal)
@@ -96,26 +91,15 @@ module _ (w signal : List ℤ) (from : ℕ) (p : length w ≡ 24) (q : from + 24
   abbrev second : List ℤ
   second = take (from + 24 - (from + 16)) (drop (from + 16) signal)
 
-  length-first : length first ≡ 16
+  pub length-first : length first ≡ 16
   length-first = simp (length-take, length-drop) (omega arith)
 
-  length-second : length second ≡ 8
+  pub length-second : length second ≡ 8
   length-second = simp (length-take, length-drop) (omega arith)
 
-  -- the taps of each, as they are lent
-  rest-is : take (length w - 16) (drop 16 w) ≡ drop 16 w
+  -- the last eight taps, as they are lent
+  pub rest-is : take (length w - 16) (drop 16 w) ≡ drop 16 w
   rest-is = take-all (length w - 16) (drop 16 w) (omega (arith, length-drop 16 w))
-
-  -- what the helper asks of each
-  pub asks-first : {b : Bool} → b ≡ narrow w → (length (take 16 w) ≡ length first) × (1 ≤ length first) × (b ≡ true → Runs.small (take 16 w) ≡ true)
-  unfolding narrow
-  asks-first e =
-      (front-is w p ∙ sym length-first, omega (arith, length-first), λ h. and-left (Runs.small (take 16 w)) (Runs.small (drop 16 w)) (sym e ∙ h))
-
-  pub asks-second : {b : Bool} → b ≡ narrow w → (length (take (length w - 16) (drop 16 w)) ≡ length second) × (1 ≤ length second) × (b ≡ true → Runs.small (take (length w - 16) (drop 16 w)) ≡ true)
-  unfolding narrow
-  asks-second e =
-      (ap length rest-is ∙ omega (arith, length-drop 16 w, length-second), omega (arith, length-second), λ h. ap Runs.small rest-is ∙ and-right (Runs.small (take 16 w)) (Runs.small (drop 16 w)) (sym e ∙ h))
 
   in-first : (k : ℕ) → k < 16 → Runs.term (take 16 w) first k ≡ term w signal from k
   unfolding term
@@ -130,13 +114,10 @@ module _ (w signal : List ℤ) (from : ℕ) (p : length w ≡ 24) (q : from + 24
       let e : from + 16 + k ≡ from + (16 + k) = omega arith in
       simp (getD-take, getD-drop, e)
 
-  -- what it gives
-  pub by-runs : {x y : ℤ} → x ≡ total fold (pos 0) (Runs.term (take 16 w) first) (length first) → y ≡ total fold x (Runs.term (take (length w - 16) (drop 16 w)) second) (length second) → y ≡ sample w signal from
+  pub by-runs : total fold (total fold (pos 0) (Runs.term (take 16 w) first) (length first)) (Runs.term (drop 16 w) second) (length second) ≡ sample w signal from
   unfolding sample
-  by-runs {x} d e =
-      let t : ℕ → ℤ = term w signal from in
-      e ∙ ap (λ (z : List ℤ). total fold x (Runs.term z second) (length second)) rest-is
-      ∙ ap (total fold x (Runs.term (drop 16 w) second)) length-second
-      ∙ ap (λ (z : ℤ). total fold z (Runs.term (drop 16 w) second) 8) (d ∙ ap (total fold (pos 0) (Runs.term (take 16 w) first)) length-first ∙ total-same fold (pos 0) (Runs.term (take 16 w) first) t 16 in-first)
-      ∙ total-same fold (total fold (pos 0) t 16) (Runs.term (drop 16 w) second) (λ (k : ℕ). t (16 + k)) 8 in-second
-      ∙ sym (total-split fold (pos 0) t 16 8)
+  by-runs =
+      rw (length-first, length-second)
+      (ap (λ (z : ℤ). total fold z (Runs.term (drop 16 w) second) 8) (total-same fold (pos 0) (Runs.term (take 16 w) first) (term w signal from) 16 in-first)
+      ∙ total-same fold (total fold (pos 0) (term w signal from) 16) (Runs.term (drop 16 w) second) (λ (k : ℕ). term w signal from (16 + k)) 8 in-second
+      ∙ sym (total-split fold (pos 0) (term w signal from) 16 8))

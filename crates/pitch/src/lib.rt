@@ -146,18 +146,25 @@ fn narrow(taps: &[i16]) -> bool
     false
 }
 
-// The 80 samples, by a window of taps: in two runs, since all of them together are seldom small. The lengths stand here so that the compiler sees them.
+// One sample between those of a signal, by the two-sided filter: in two runs, since all the taps together are seldom small.
+fn interpolated_sample(taps: &[i16], narrow: bool, signal: &[i16], from: usize) -> i64
+    requires { ⌜ (length (now taps) ≡ 24) × (narrow ≡ Window.narrow (now taps)) × (from + 24 ≤ length (now signal)) ⌝ }
+    ensures { λ r. ⌜ r ≡ Window.sample (now (taps .entry)) (now (signal .entry)) from ⌝ }
+{
+    let middle = from + 16;
+    let end = from + 24;
+    let first = fold_products(0, &taps[..16], narrow, &signal[from..middle]);
+    fold_products(first, &taps[16..], narrow, &signal[middle..end])
+}
+
+// The 80 samples, by a window of taps.
 fn predict_from(taps: &[i16], narrow: bool, exc: &mut [i16], at: usize, delay: usize)
     requires { ⌜ (length (now taps) ≡ 24) × (narrow ≡ Window.narrow (now taps)) × (154 ≤ at) × (at + 80 ≤ length (now exc)) × (20 ≤ delay) × (delay ≤ 144) ⌝ }
     ensures { λ _. ⌜ now (exc .exit) ≡ rewritten (Window.predicted (now (taps .entry)) delay at) at (now (exc .entry)) 80 ⌝ }
 {
     for n in 0..80 {
         let place = at + n;
-        let from = place - delay - 9;
-        let middle = from + 16;
-        let end = from + 24;
-        let first = fold_products(0, &taps[..16], narrow, &exc[from..middle]);
-        let value = fold_products(first, &taps[16..], narrow, &exc[middle..end]);
+        let value = interpolated_sample(taps, narrow, &exc[..], place - delay - 9);
         let y = hi(sat(fold(value, 32768)));
         exc[place] = y;
     }
@@ -189,11 +196,7 @@ fn sharpen_from(taps: &[i16], narrow: bool, buf: &mut [i16], first: usize, gain:
     let count = 80 - first;
     for n in 0..count {
         let place = 21 + first + n;
-        let from = 2 + n;
-        let middle = from + 16;
-        let end = from + 24;
-        let front = fold_products(0, &taps[..16], narrow, &buf[from..middle]);
-        let value = fold_products(front, &taps[16..], narrow, &buf[middle..end]);
+        let value = interpolated_sample(taps, narrow, &buf[..], 2 + n);
         let y = mixed(value, gain, buf[place]);
         buf[place] = y;
     }

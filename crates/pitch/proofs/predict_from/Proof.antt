@@ -1,7 +1,7 @@
 -- The excitation is, by turn n, rewritten in n places; each sample comes from at most 153 and at least 10 before it.
 use borrow.Author.Needs.{needs}
 use native.Mathlib.Omega.{arith}
-use mathlib.Core.Path.{_≡_, refl, sym, _∙_, ap}
+use mathlib.Core.Path.{_≡_, refl, _∙_, ap}
 use Prim.Native.Nat.{_+_, _-_, _≤_}
 use lib.IntN.{ℤ, pos}
 use lib.ListN.{length, length-set}
@@ -11,7 +11,6 @@ use Rattle.sequence.specs.Rewritten.{rewritten, rewritten-again, rewritten-end}
 use Rattle.fixed.specs.Fixed as Fixed
 use Rattle.fixed.specs.Machine.{back}
 use Rattle.pitch.specs.Window as Window
-use Rattle.pitch.proofs.Filter.{front-is, asks-first, asks-second, by-runs}
 use Rattle.pitch.proofs.predict_from.Statement.{statement}
 use Rattle.pitch.proofs.predict_from.Tie as tie
 
@@ -29,65 +28,14 @@ loop-holds c = (omega arith, refl, refl)
 add-place : tie.Need-add-place Inv-loop μ-loop
 add-place c = omega arith
 
-sub-from : tie.Need-sub-from Inv-loop μ-loop
-sub-from c = omega arith
+sub-interpolated-sample : tie.Need-sub-interpolated-sample Inv-loop μ-loop
+sub-interpolated-sample c = omega arith
 
-sub-from-2 : tie.Need-sub-from-2 Inv-loop μ-loop
-sub-from-2 c = omega arith
+sub-interpolated-sample-2 : tie.Need-sub-interpolated-sample-2 Inv-loop μ-loop
+sub-interpolated-sample-2 c = omega arith
 
-add-middle : tie.Need-add-middle Inv-loop μ-loop
-add-middle c = omega arith
-
-add-end : tie.Need-add-end Inv-loop μ-loop
-add-end c = omega arith
-
-slice-aggregate-fold-products : tie.Need-slice-aggregate-fold-products Inv-loop μ-loop
-slice-aggregate-fold-products c = let s = c .before .before .before in sym (front-is (s .args .taps .now) (s .pre .0))
-
-mul-fold-products : tie.Need-mul-fold-products Inv-loop μ-loop
-mul-fold-products c = omega arith
-
-sub-fold-products : tie.Need-sub-fold-products Inv-loop μ-loop
-sub-fold-products c = omega arith
-
-part-fold-products-start : tie.Need-part-fold-products-start Inv-loop μ-loop
-part-fold-products-start c = omega arith
-
-part-fold-products-end : tie.Need-part-fold-products-end Inv-loop μ-loop
-part-fold-products-end c = omega arith
-
-fold-products-requires : tie.Need-fold-products-requires Inv-loop μ-loop
-fold-products-requires c κs =
-    let l = c .before .before .before .before in
-    let s = l .before in
-    asks-first (s .args .taps .now) (l .loop .exc) (s .args .at + l .loop .n - s .args .delay - 9) (s .pre .0) (omega arith) (s .pre .1)
-
-sub-fold-products-2 : tie.Need-sub-fold-products-2 Inv-loop μ-loop
-sub-fold-products-2 c = omega arith
-
-part-fold-products-start-2 : tie.Need-part-fold-products-start-2 Inv-loop μ-loop
-part-fold-products-start-2 c = omega arith
-
-part-fold-products-end-2 : tie.Need-part-fold-products-end-2 Inv-loop μ-loop
-part-fold-products-end-2 c = omega arith
-
-mul-fold-products-2 : tie.Need-mul-fold-products-2 Inv-loop μ-loop
-mul-fold-products-2 c = omega arith
-
-sub-fold-products-3 : tie.Need-sub-fold-products-3 Inv-loop μ-loop
-sub-fold-products-3 c = omega arith
-
-part-fold-products-start-3 : tie.Need-part-fold-products-start-3 Inv-loop μ-loop
-part-fold-products-start-3 c = omega arith
-
-part-fold-products-end-3 : tie.Need-part-fold-products-end-3 Inv-loop μ-loop
-part-fold-products-end-3 c = omega arith
-
-fold-products-requires-2 : tie.Need-fold-products-requires-2 Inv-loop μ-loop
-fold-products-requires-2 c κs =
-    let l = c .before .before .before .before .before .before .before .before in
-    let s = l .before in
-    asks-second (s .args .taps .now) (l .loop .exc) (s .args .at + l .loop .n - s .args .delay - 9) (s .pre .0) (omega arith) (s .pre .1)
+interpolated-sample-requires : tie.Need-interpolated-sample-requires Inv-loop μ-loop
+interpolated-sample-requires c κs = let s = c .before .before .before in (s .pre .0, s .pre .1, omega arith)
 
 fold-requires : tie.Need-fold-requires Inv-loop μ-loop
 fold-requires c κs = search needs
@@ -110,35 +58,21 @@ add-n c = omega arith
 loop-less : tie.Need-loop-less Inv-loop μ-loop
 loop-less c = omega arith
 
--- the two runs make a sample
-value-is : (c : tie.After-fold-products2 Inv-loop μ-loop) →
-    let l = c .before .before .before .before .before .before .before .before .before in
-    let s = l .before in
-    toZ w64 (ofZ w64 (c .fold-products2 .result)) ≡ Window.sample (s .args .taps .now) (l .loop .exc) (s .args .at + l .loop .n - s .args .delay - 9)
-value-is c =
-    let f = c .before .before .before .before in
-    let l = f .before .before .before .before .before in
-    let s = l .before in
-    back w64 (c .fold-products2 .result) (c .fold-products2 .ok)
-    ∙ by-runs (s .args .taps .now) (l .loop .exc) (s .args .at + l .loop .n - s .args .delay - 9) (s .pre .0) (omega arith) (f .fold-products .ensures)
-    (simp (back w64 (f .fold-products .result) (f .fold-products .ok)) at (c .fold-products2 .ensures))
-
 loop-again : tie.Need-loop-again Inv-loop μ-loop
 unfolding Window.predicted
 loop-again c =
-    let v = c .before .before .before in
-    let i = v .before .before .before .before .before .before .before .before in
-    let l = i .before in
+    let l = c .before .before .before .before .before .before in
     let s = l .before in
+    let i = c .before .before .before .interpolated-sample in
     let f = c .before .before .fold in
     let t = c .before .sat in
     let y : ℤ = toZ w16 (ofZ w16 (c .hi .result)) in
-    let f-is : f .result ≡ Fixed.fold (toZ w64 (ofZ w64 (v .fold-products2 .result))) (pos 32768) = f .ensures in
+    let f-is : f .result ≡ Fixed.fold (i .result) (pos 32768) = simp (back w64 (i .result) (i .ok)) at (f .ensures) in
     let t-is : t .result ≡ Fixed.sat (f .result) = simp (back w64 (f .result) (f .ok)) at (t .ensures) in
     let h-is : c .hi .result ≡ Fixed.hi (t .result) = simp (back w64 (t .result) (t .ok)) at (c .hi .ensures) in
     let e : y ≡ Window.predicted (s .args .taps .now) (s .args .delay) (s .args .at) (l .loop .n) (l .loop .exc) =
-    back w16 (c .hi .result) (c .hi .ok) ∙ h-is ∙ ap (λ (z : ℤ). Fixed.hi z) (t-is ∙ ap (λ (z : ℤ). Fixed.sat z) (f-is ∙ ap (λ (z : ℤ). Fixed.fold z (pos 32768)) (value-is v))) in
-    (omega (arith, i), length-set (l .loop .exc) (s .args .at + l .loop .n) y ∙ l .loop .inv .1, rewritten-again _ (s .args .at) (s .args .exc .now) (l .loop .n) (l .loop .exc) y (l .loop .inv .2) e)
+    back w16 (c .hi .result) (c .hi .ok) ∙ h-is ∙ ap (λ (z : ℤ). Fixed.hi z) (t-is ∙ ap (λ (z : ℤ). Fixed.sat z) (f-is ∙ ap (λ (z : ℤ). Fixed.fold z (pos 32768)) (i .ensures))) in
+    (omega arith, length-set (l .loop .exc) (s .args .at + l .loop .n) y ∙ l .loop .inv .1, rewritten-again _ (s .args .at) (s .args .exc .now) (l .loop .n) (l .loop .exc) y (l .loop .inv .2) e)
 
 same-length : tie.Need-same-length Inv-loop μ-loop
 same-length c = search needs
@@ -157,24 +91,9 @@ predict-from-spec =
     μ-loop
     loop-holds
     add-place
-    sub-from
-    sub-from-2
-    add-middle
-    add-end
-    slice-aggregate-fold-products
-    mul-fold-products
-    sub-fold-products
-    part-fold-products-start
-    part-fold-products-end
-    fold-products-requires
-    sub-fold-products-2
-    part-fold-products-start-2
-    part-fold-products-end-2
-    mul-fold-products-2
-    sub-fold-products-3
-    part-fold-products-start-3
-    part-fold-products-end-3
-    fold-products-requires-2
+    sub-interpolated-sample
+    sub-interpolated-sample-2
+    interpolated-sample-requires
     fold-requires
     sat-requires
     hi-requires
