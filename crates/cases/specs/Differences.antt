@@ -1,9 +1,9 @@
 -- What the definitions give for inputs of docs/DIFFERENCES.md on which the Rust gives something else.
 use mathlib.Core.Path.{_≡_, refl}
-use mathlib.Core.List.{List, [], _∷_, map}
+use mathlib.Core.List.{[], _∷_, map}
 use lib.IntN.{pos}
 use lib.ListN.{replicate}
-use lib.Ieee.{Float, nan, binary32, ofBits, toBits, ofInt, toUnsigned, add, sub, mul, lt, le}
+use lib.Ieee.{nan, binary32, ofBits, toBits, ofInt, toUnsigned, add, sub, mul, lt, le}
 use Rattle.sequence.specs.Table.{table}
 use Rattle.spectral.specs.Spectral.{sort, spread}
 use Rattle.gain.specs.Gain.{step}
@@ -15,6 +15,6 @@ unfolding spread sort table toUnsigned ofInt ofBits add lt le
 nan-stays = refl
 
 -- from a history of zeros, with no energy, pitch gain and bias: our exponential of this log gain is 1.5, and the tie goes to 2
-gain-2 : step (replicate 4 (bits 0)) (bits 0) (bits 0) (bits 0x3ecf_991e) (bits 0) .code ≡ pos 2
+gain-2 : step (replicate 4 (bits 0)) (bits 0) (bits 0) (bits 0x3ecf_991e) (bits 0) .«code_gain» ≡ pos 2
 unfolding step add sub mul le ofBits toBits ofInt
 gain-2 = refl

@@ -1,8 +1,8 @@
 -- The Rust's decoder with its full state, beside ours, call by call. Whatever stands in the places that our state leaves out (160 of the 314 excitation samples,
 -- `sharpen_voiced`, `previous_lag`), an accepted frame is answered alike, and the decoder after it has our next state's parts again.
 use Prim.Native.Nat.{ℕ}
-use mathlib.Core.Path.{_≡_, refl, ap, _∙_}
-use mathlib.Core.List.{List, _++_}
+use mathlib.Core.Path.{_≡_, refl, _∙_}
+use mathlib.Core.List.{List}
 use native.Mathlib.Omega.{arith}
 use lib.IntN.{ℤ}
 use lib.ListN.{length, length-append}
@@ -12,8 +12,7 @@ use Rattle.bits.specs.Widths.{within-names, fields-within}
 use Rattle.gain.specs.Gain as Gain
 use Rattle.spectral.specs.Spectral as Spectral
 use Rattle.core.specs.Full.{new, restricted, filled}
-use Rattle.frame.specs.Frame as Frame
-use Rattle.frame.specs.Full.{Native, Observation}
+use Rattle.frame.specs.Full.{Native}
 use Rattle.frame.specs.Full as Full
 use Rattle.frame.specs.FullSame.{kept, frame-same}
 use Rattle.celp.specs.declared.State.{State}
@@ -24,16 +23,16 @@ use Rattle.celp.specs.Cases.{refused-state}
 -- a full decoder has the parts of our state
 pub record Carries (n : Native) (s : State) : Type 0 where
   pub core : kept n ≡ carried s
-  pub residuals : n .spectrum ≡ s .residuals
+  pub residuals : n .residuals ≡ s .residuals
   pub long : length (n .core .excitation) ≡ 314
 
 -- `Native::default`
 unfoldable pub fresh : List ℤ → List ℕ → Native
-fresh words bytes = record { core = new (lspMean words); spectrum = Spectral.initial words; gain = Gain.initialHistory bytes }
+fresh words bytes = record { core = new (lspMean words); residuals = Spectral.initial words; gains = Gain.initialHistory bytes }
 
 -- the state filled up with anything in those places
 unfoldable pub completed : State → List ℤ → ℤ → ℤ → Native
-completed s stale voiced lag = record { core = filled (carried s) stale voiced lag; spectrum = s .residuals; gain = s .gains }
+completed s stale voiced lag = record { core = filled (carried s) stale voiced lag; residuals = s .residuals; gains = s .gains }
 
 pub completed-carries : (s : State) (stale : List ℤ) (voiced lag : ℤ) → length (s .excitation) ≡ 154 → length stale ≡ 160 → Carries (completed s stale voiced lag) s
 unfolding completed filled restricted carried

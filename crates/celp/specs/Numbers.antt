@@ -3,13 +3,12 @@ use Prim.Native.Nat.{ℕ, zero, suc, _<_}
 use mathlib.Core.Path.{_≡_, refl, sym, ap, _∙_, subst}
 use mathlib.Core.Bool.{Bool, true, false, not, _&&_}
 use mathlib.Core.List.{List, [], _∷_}
-use native.Mathlib.Omega.{arith}
 use lib.Dec.{T, lit<}
 use lib.IntN.{ℤ, pos, negsuc}
-use lib.ListN.{length, getD}
+use lib.ListN.{getD}
 use lib.Ieee.{Float, nan, binary32, ofBits, ofInt, isNan}
 use lib.Ieee.Bits.{is-true}
-use Rattle.sequence.specs.All.{all, all-at, all-of, and-left, and-right}
+use Rattle.sequence.specs.All.{all, all-at, all-of}
 use Rattle.floats.specs.Floats.{within}
 use Rattle.floats.specs.Within.{within-is-number}
 use Rattle.floats.specs.NoNan.{round-no-nan, finite-no-nan}
@@ -23,14 +22,12 @@ use Rattle.gain.specs.Gain as Gain
 use Rattle.gain.specs.Ranges.{Bounded}
 use Rattle.gain.specs.Kept.{decode-bounded, amplitude-figure-finite, energy-number}
 use Rattle.core.specs.declared.Core.{Core}
-use Rattle.core.specs.declared.Half.{Half}
 use Rattle.core.specs.declared.SubframeTrace.{SubframeTrace}
 use Rattle.core.specs.Core as HalfFrame
 use Rattle.core.specs.Figures.{histories, pushed}
 use Rattle.core.specs.Kept.{indexes-kept, gains-kept}
 use Rattle.frame.specs.declared.Subframe.{Subframe}
 use Rattle.frame.specs.Frame as Frame
-use Rattle.frame.specs.Kept.{Kept}
 use Rattle.spectral.specs.Kept.{Words16}
 use Rattle.spectral.specs.Lists.{Each}
 use Rattle.celp.specs.declared.State.{State}
@@ -59,11 +56,11 @@ all-each (x ∷ l) h = ap (λ (b : Bool). b && all number l) (is-true (number x)
 
 module _ (words : List ℤ) (bytes : List ℕ) (s : SoundBytes bytes) where
   -- a subframe's figures, by its gain index and its history
-  each-number : (t : SubframeTrace) → t .«gain_index» < 128 → Bounded (t .«gain_history») → Each number (Frame.figures bytes t)
+  each-number : (t : SubframeTrace) → t .«gain_index» < 128 → Bounded (t .gains) → Each number (Frame.figures bytes t)
   unfolding Frame.figures
   each-number t i b =
-      let past : (k : ℕ) → k < 4 → T (number (getD (t .«gain_history») k nan)) = λ k h. within-is-number 131072 (getD (t .«gain_history») k nan) (b k h) in
-      let amplitude = finite-no-nan (Gain.amplitude bytes (t .«gain_history») (t .«gain_index»)) (amplitude-figure-finite s (t .«gain_history») b (t .«gain_index») i) in
+      let past : (k : ℕ) → k < 4 → T (number (getD (t .gains) k nan)) = λ k h. within-is-number 131072 (getD (t .gains) k nan) (b k h) in
+      let amplitude = finite-no-nan (Gain.amplitude bytes (t .gains) (t .«gain_index»)) (amplitude-figure-finite s (t .gains) b (t .«gain_index») i) in
       let correction = within-is-number 65536 (logGain bytes (t .«gain_index»)) (log-gain-within s (t .«gain_index») i) in (
         int-number (pos (t .«gain_index»)),
         (
@@ -80,7 +77,7 @@ module _ (words : List ℤ) (bytes : List ℕ) (s : SoundBytes bytes) where
                     amplitude,
                     (
                       energy-number (t .innovation),
-                      (int-number (t .code), (int-number (t .pitch), (int-number (t .lag .integer), (int-number (pos (t .«code_class»)), tt)))),
+                      (int-number (t .«code_gain»), (int-number (t .«pitch_gain»), (int-number (t .lag .integer), (int-number (pos (t .«code_class»)), tt)))),
                     ),
                   ),
                 ),
@@ -90,7 +87,7 @@ module _ (words : List ℤ) (bytes : List ℕ) (s : SoundBytes bytes) where
         ),
       )
 
-  reported-numbers : (t : SubframeTrace) → t .«gain_index» < 128 → Bounded (t .«gain_history») → numbers (Frame.reported bytes t) ≡ true
+  reported-numbers : (t : SubframeTrace) → t .«gain_index» < 128 → Bounded (t .gains) → numbers (Frame.reported bytes t) ≡ true
   unfolding Frame.reported
   reported-numbers t i b = all-each (Frame.figures bytes t) (each-number t i b)
 

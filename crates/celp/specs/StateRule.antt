@@ -1,8 +1,8 @@
 -- The state rule is kept: a state that reset, a cold start, a decode or a missed frame gave is never refused with 5.
-use Prim.Native.Nat.{ℕ, zero, suc, _+_, _<_, min}
-use mathlib.Core.Path.{_≡_, refl, sym, ap, _∙_, subst}
+use Prim.Native.Nat.{ℕ, zero, suc, _<_}
+use mathlib.Core.Path.{_≡_, refl, sym, subst}
 use mathlib.Core.List.{List, [], _∷_}
-use mathlib.Core.Bool.{Bool, true, false, not, cond, _&&_}
+use mathlib.Core.Bool.{Bool, true, false, _&&_}
 use native.Mathlib.Omega.{arith}
 use borrow.Author.Tests.{le-leb}
 use lib.Dec.{T, leb}
@@ -13,7 +13,7 @@ use Rattle.sequence.specs.All.{all, all-at, all-of, and-left, and-right}
 use Rattle.sequence.specs.Table.{length-table}
 use Rattle.floats.specs.Floats.{within}
 use Rattle.tables.specs.Tables.{check}
-use Rattle.tables.specs.Sound.{Sound, sound}
+use Rattle.tables.specs.Sound.{sound}
 use Rattle.bits.specs.Bits.{fieldsOf}
 use Rattle.bits.specs.Widths.{within-names, fields-within}
 use Rattle.gain.specs.Gain as Gain
@@ -23,7 +23,7 @@ use Rattle.spectral.specs.Kept.{Words16, initial-kept}
 use Rattle.frame.specs.Kept.{Kept, decode-kept}
 use Rattle.celp.specs.declared.State.{State}
 use Rattle.celp.specs.State as State
-use Rattle.celp.specs.Celp.{refusal, raised, refused, carried, decoded, next, accepted, answer, decode}
+use Rattle.celp.specs.Celp.{refusal, raised, carried, decoded, next, accepted, answer, decode}
 use Rattle.celp.specs.Cases.{refused-state}
 use Rattle.celp.specs.Accepted.{accepted-means, obeyed-not-five}
 use Rattle.celp.specs.Run.{Event, heard, missed, step, run}

@@ -1,9 +1,9 @@
 // The decoder's calls: reset, cold start, decode, missed frame. A state is handed in and handed back whole.
 ghost use mathlib.Core.Path.{_≡_};
-ghost use Prim.Native.Nat.{_≤_};
 ghost use lib.ListN.{length, replicate};
 ghost use Rattle.sequence.specs.All.{all};
 ghost use Rattle.floats.specs.Floats.{within};
+ghost use Rattle.tables.specs.Places.{WORDS, BYTES};
 ghost use Rattle.bits.specs.Bits as Bits;
 ghost use Rattle.celp.specs.Celp as Celp;
 ghost use Rattle.celp.specs.State.{allZero, marked, obeys, lspMean, initial, started, reset, coldStart, missedFrame};
@@ -15,6 +15,7 @@ use frame::Decoded;
 use frame::Subframe;
 use postfilter::OutputFilter;
 
+// All that a decoder carries from frame to frame: what the halves carry on, the residuals, the gain history, and the mark.
 pub struct State {
     pub lsp: [i16; 10],
     pub excitation: [i16; 154],
@@ -43,6 +44,7 @@ pub struct Returned {
     pub state: State,
 }
 
+// The state that is handed back where the set is refused.
 fn all_zero() -> State
     ensures { λ r. ⌜ r ≡ allZero ⌝ }
 {
@@ -69,6 +71,7 @@ fn marked(state: State, mark: u8) -> State
     s
 }
 
+// Whether each is finite and within 131,072.
 fn all_within(floats: &[f32]) -> bool
     ensures { λ r. ⌜ r ≡ all (within 131072) (now (floats .entry)) ⌝ }
 {
@@ -96,8 +99,9 @@ fn obeys(state: State) -> bool
     state.mark <= 2
 }
 
+// The ten words of LSP_MEAN.
 fn lsp_mean(words: &[i16]) -> [i16; 10]
-    requires { ⌜ length (now words) ≡ 5963 ⌝ }
+    requires { ⌜ length (now words) ≡ WORDS ⌝ }
     ensures { λ r. ⌜ r ≡ lspMean (now (words .entry)) ⌝ }
 {
     let mut lsp = [0i16; 10];
@@ -111,7 +115,7 @@ fn lsp_mean(words: &[i16]) -> [i16; 10]
 
 // The state that a call starts from.
 fn initial(words: &[i16], bytes: &[u8], mark: u8) -> State
-    requires { ⌜ length (now words) ≡ 5963 ⌝ ∗ ⌜ length (now bytes) ≡ 3908 ⌝ }
+    requires { ⌜ length (now words) ≡ WORDS ⌝ ∗ ⌜ length (now bytes) ≡ BYTES ⌝ }
     ensures { λ r. ⌜ r ≡ initial (now (words .entry)) (now (bytes .entry)) mark ⌝ }
 {
     let lsp = lsp_mean(words);
@@ -148,6 +152,7 @@ fn started(words: &[i16], bytes: &[u8], mark: u8) -> Returned
     }
 }
 
+// The state that a call starts from, with mark 2, or where the set is refused the all-zero one.
 pub fn reset(words: &[i16], bytes: &[u8]) -> Returned
     ensures { λ r. ⌜ r ≡ reset (now (words .entry)) (now (bytes .entry)) ⌝ }
 {
@@ -161,6 +166,7 @@ pub fn cold_start(words: &[i16], bytes: &[u8]) -> Returned
     started(words, bytes, 0)
 }
 
+// The state with mark 0, and 5 where it does not obey the state rule.
 pub fn missed_frame(state: State) -> Returned
     ensures { λ r. ⌜ r ≡ missedFrame state ⌝ }
 {
@@ -177,6 +183,7 @@ pub fn missed_frame(state: State) -> Returned
     }
 }
 
+// 24 fields, each 0.
 fn no_fields() -> FrameParams
     ensures { λ r. ⌜ r ≡ Bits.frameParams (replicate 24 0) ⌝ }
 {
@@ -200,6 +207,7 @@ fn no_fields() -> FrameParams
     }
 }
 
+// The fields that were read, or where the payload is refused 24 zeros.
 fn fields(u: Unpacked) -> FrameParams
     ensures { λ r. ⌜ r ≡ Bits.fields u ⌝ }
 {
@@ -246,6 +254,7 @@ fn refusal(
     0
 }
 
+// What is reported of a subframe that was not decoded.
 fn silent() -> Subframe
     ensures { λ r. ⌜ r ≡ Celp.silent ⌝ }
 {
@@ -258,6 +267,7 @@ fn silent() -> Subframe
     }
 }
 
+// The answer to a frame that is refused.
 fn refused(number: u8, state: State) -> Answer
     ensures { λ r. ⌜ r ≡ Celp.refused number state ⌝ }
 {
@@ -321,13 +331,14 @@ fn next(d: Decoded, mark: u8) -> State
     }
 }
 
+// The mark after a frame that is accepted.
 fn raised(mark: u8) -> u8
     ensures { λ r. ⌜ r ≡ Celp.raised mark ⌝ }
 {
     if mark < 2 { mark + 1 } else { 2 }
 }
 
-// `came` is the mark that the frame came with.
+// The answer to a frame that is accepted; `came` is the mark that it came with.
 fn accepted(came: u8, d: Decoded) -> Answer
     ensures { λ r. ⌜ r ≡ Celp.accepted came d ⌝ }
 {
@@ -344,6 +355,7 @@ fn accepted(came: u8, d: Decoded) -> Answer
     }
 }
 
+// A frame: what it is answered with. The samples are written where it is accepted.
 pub fn decode(
     words: &[i16],
     bytes: &[u8],

@@ -28,7 +28,7 @@ pub record Accepted (words : List ℤ) (bytes : List ℕ) (p : HalfParams) : Typ
 pub record Usable (words : List ℤ) (bytes : List ℕ) (p : SubframeParams) : Type 0 where
   pub sound : SoundWords words
   pub bytes-long : length bytes ≡ BYTES
-  pub digits : Codebook.digitsFit words (p .code) ≡ true
+  pub digits : Codebook.digitsFit words (p .index) ≡ true
   pub index : p .«gain_index» < 128
   pub lag : Pitch.Sane (p .lag)
 

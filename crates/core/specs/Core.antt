@@ -32,15 +32,15 @@ use Rattle.core.specs.declared.Subframe.{Subframe}
 use Rattle.core.specs.declared.Half.{Half}
 
 -- ---- the innovation
--- two gains for an example
-abbrev halves : InterpolationGains
-halves = record { fixed = pos 1; voiced = pos 2 }
-
 -- of the two gains of sharpening, classes 1, 2 and 5 take the second
 unfoldable pub sharpenGain : ℕ → InterpolationGains → ℤ
 sharpenGain class g = cond (eqb class 1 || eqb class 2 || eqb class 5) (g .voiced) (g .fixed)
 
-which-gain : (sharpenGain 0 halves ≡ pos 1) × (sharpenGain 1 halves ≡ pos 2) × (sharpenGain 2 halves ≡ pos 2) × (sharpenGain 3 halves ≡ pos 1) × (sharpenGain 4 halves ≡ pos 1) × (sharpenGain 5 halves ≡ pos 2)
+-- of two gains, for an example
+abbrev two : InterpolationGains
+two = record { fixed = pos 1; voiced = pos 2 }
+
+which-gain : (sharpenGain 0 two ≡ pos 1) × (sharpenGain 1 two ≡ pos 2) × (sharpenGain 2 two ≡ pos 2) × (sharpenGain 3 two ≡ pos 1) × (sharpenGain 4 two ≡ pos 1) × (sharpenGain 5 two ≡ pos 2)
 unfolding sharpenGain
 which-gain = (refl, refl, refl, refl, refl, refl)
 
@@ -61,12 +61,12 @@ sharpenGains lpc lag sharpenFixed lastHalfLag = Excitation.interpolationGains (g
 
 -- the innovation of a subframe
 unfoldable pub innovation : List ℤ → SubframeParams → ℤ → ℤ → Innovation
-innovation words p sharpenFixed lastHalfLag = shaped words (Codebook.decode words (p .code)) (p .lag) (sharpenGains (p .lpc) (p .lag) sharpenFixed lastHalfLag)
+innovation words p sharpenFixed lastHalfLag = shaped words (Codebook.decode words (p .index)) (p .lag) (sharpenGains (p .lpc) (p .lag) sharpenFixed lastHalfLag)
 
 -- ---- the excitation
 -- a sample: the predicted one by the pitch gain, and twice the innovation's by the code gain; doubled, rounded and saturated
 unfoldable pub mixed : ℤ → ℤ → ℤ → ℤ → ℤ
-mixed pitch code a c = hi (sat (fold (shift (fold (mul a pitch) (shift (mul c code) (pos 1))) (pos 1)) (pos 32768)))
+mixed pitchGain codeGain a c = hi (sat (fold (shift (fold (mul a pitchGain) (shift (mul c codeGain) (pos 1))) (pos 1)) (pos 32768)))
 
 -- a pitch gain of 16384 takes over the predicted sample, a code gain of 8192 the innovation's; a sum that is too large is saturated
 passed : (mixed (pos 16384) (pos 0) (pos 1000) (pos 7) ≡ pos 1000) × (mixed (pos 0) (pos 8192) (pos 7) (negsuc 999) ≡ negsuc 999) × (mixed (pos 32767) (pos 32767) (pos 32767) (pos 32767) ≡ pos 32767)
@@ -75,18 +75,18 @@ passed = (refl, refl, refl)
 
 -- sample n from place start on, and the 80 of them, each mixed with the innovation's
 abbrev pub mixedAt : ℤ → ℤ → List ℤ → ℕ → ℕ → List ℤ → ℤ
-mixedAt pitch code innovation start n exc = mixed pitch code (getD exc (start + n) (pos 0)) (getD innovation n (pos 0))
+mixedAt pitchGain codeGain innovation start n exc = mixed pitchGain codeGain (getD exc (start + n) (pos 0)) (getD innovation n (pos 0))
 
 unfoldable pub mix : ℤ → ℤ → List ℤ → ℕ → List ℤ → List ℤ
-mix pitch code innovation start exc = rewritten (mixedAt pitch code innovation start) start exc 80
+mix pitchGain codeGain innovation start exc = rewritten (mixedAt pitchGain codeGain innovation start) start exc 80
 
 -- first predicted by the lag
 unfoldable pub excited : List ℤ → List ℤ → ℕ → Lag → ℤ → ℤ → List ℤ → List ℤ
-excited words exc start lag pitch code innovation = mix pitch code innovation start (Pitch.predict (Pitch.interp words) exc start lag)
+excited words exc start lag pitchGain codeGain innovation = mix pitchGain codeGain innovation start (Pitch.predict (Pitch.interp words) exc start lag)
 
 -- by a subframe's trace
 abbrev pub excitedBy : List ℤ → List ℤ → ℕ → SubframeTrace → List ℤ
-excitedBy words exc start t = excited words exc start (t .lag) (t .pitch) (t .code) (t .innovation)
+excitedBy words exc start t = excited words exc start (t .lag) (t .«pitch_gain») (t .«code_gain») (t .innovation)
 
 -- the 80 samples from a place on
 unfoldable pub part : List ℤ → ℕ → List ℤ
@@ -95,7 +95,7 @@ part exc start = take 80 (drop start exc)
 -- ---- a subframe
 -- the gain that it leaves: its pitch gain, within 3277 to 13017
 unfoldable pub clamped : ℤ → ℤ
-clamped pitch = clamp (pos 3277) (pos 13017) pitch
+clamped pitchGain = clamp (pos 3277) (pos 13017) pitchGain
 
 ends : (clamped (pos 0) ≡ pos 3277) × (clamped (pos 5000) ≡ pos 5000) × (clamped (pos 32767) ≡ pos 13017)
 unfolding clamped clamp
@@ -108,15 +108,15 @@ traced p gains i g samples = record {
     lag = p .lag;
     «code_class» = i .class;
     «gain_index» = p .«gain_index»;
-    pitch = g .pitch;
-    code = g .code;
-    «gain_history» = gains;
+    «pitch_gain» = g .«pitch_gain»;
+    «code_gain» = g .«code_gain»;
+    gains = gains;
     lpc = p .lpc;
     innovation = i .code;
     «mixed_excitation» = samples;
   };
-  «sharpen_fixed» = clamped (g .pitch);
-  gains = g .history;
+  «sharpen_fixed» = clamped (g .«pitch_gain»);
+  gains = g .gains;
 }
 
 -- a subframe whose excitation is the 80 samples from place start on, by what the subframe before it left
@@ -124,7 +124,7 @@ unfoldable pub decodeSubframe : List ℤ → List ℕ → List ℤ → ℕ → S
 decodeSubframe words bytes exc start p sharpenFixed lastHalfLag gains =
     let i : Innovation = innovation words p sharpenFixed lastHalfLag in
     let g : Decoded = Gain.decode bytes gains (p .«gain_index») (i .code) in
-    traced p gains i g (part (excited words exc start (p .lag) (g .pitch) (g .code) (i .code)) start)
+    traced p gains i g (part (excited words exc start (p .lag) (g .«pitch_gain») (g .«code_gain») (i .code)) start)
 
 -- ---- a half
 -- what its fields and the spectrum settle of its subframes: the first lag is absolute, the second relative to the first's integer
@@ -133,8 +133,8 @@ splitParams previous lsp p =
     let lpc : Pair = Lsp.interpolatePair previous lsp in
     let lag : Lag = Pitch.decodeAbsolute (p .«absolute_pitch») in
     record {
-      first = record { lpc = lpc .first; lag = lag; code = p .code0; «gain_index» = Bits.gainIndex p 0 };
-      second = record { lpc = lpc .second; lag = Pitch.decodeRelative (p .«relative_pitch») (lag .integer); code = p .code1; «gain_index» = Bits.gainIndex p 1 };
+      first = record { lpc = lpc .first; lag = lag; index = p .code0; «gain_index» = Bits.gainIndex p 0 };
+      second = record { lpc = lpc .second; lag = Pitch.decodeRelative (p .«relative_pitch») (lag .integer); index = p .code1; «gain_index» = Bits.gainIndex p 1 };
     }
 
 -- room for its excitation: the 154 samples that are kept, and 160 that are written before they are read
@@ -166,7 +166,7 @@ module _ (words : List ℤ) (bytes : List ℕ) (core : Core) (lsp : List ℤ) (p
   unfoldable pub between : List ℤ
   between = excitedBy words (room (core .excitation)) 154 (first .trace)
 
-  -- the second, from place 234 on; the last lag of the half before is still that of the first subframe
+  -- the second, from place 234 on; the last lag of the half before is the same as for the first subframe
   unfoldable pub second : Subframe
   second = decodeSubframe words bytes between 234 (params .second) (first .«sharpen_fixed») (core .«last_half_lag») (first .gains)
 

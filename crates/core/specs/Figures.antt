@@ -7,7 +7,8 @@ use lib.IntN.{ℤ, pos}
 use lib.ListN.{getD}
 use lib.Ieee.{Float, nan}
 use Rattle.floats.specs.Floats.{quantise}
-use Rattle.tables.specs.Tables.{pitchGain, logGain}
+use Rattle.tables.specs.Tables.{logGain}
+use Rattle.tables.specs.Tables as Tables
 use Rattle.bits.specs.declared.HalfParams.{HalfParams}
 use Rattle.bits.specs.Bits.{gainIndex}
 use Rattle.lsp.specs.Lsp.{interpolatePair}
@@ -20,11 +21,11 @@ use Rattle.core.specs.declared.Half.{Half}
 use Rattle.core.specs.Core as Spec
 
 -- the pitch gain of a gain index, and the gain that its subframe leaves
-unfoldable pub pitch : List ℕ → ℕ → ℤ
-pitch bytes index = pos (quantise 32767 (pitchGain bytes index))
+unfoldable pub pitchGain : List ℕ → ℕ → ℤ
+pitchGain bytes index = pos (quantise 32767 (Tables.pitchGain bytes index))
 
 unfoldable pub left : List ℕ → ℕ → ℤ
-left bytes index = Spec.clamped (pitch bytes index)
+left bytes index = Spec.clamped (pitchGain bytes index)
 
 -- a gain history with an index's log gain in front
 unfoldable pub pushed : List ℕ → List Float → ℕ → List Float
@@ -53,9 +54,9 @@ module _ (words : List ℤ) (bytes : List ℕ) (core : Core) (lsp : List ℤ) (p
   unfolding Spec.half Spec.first Spec.second Spec.params Spec.decodeSubframe Spec.traced Spec.splitParams
   indexes = (refl, refl)
 
-  pub pitches : (h .first .pitch ≡ pitch bytes (gainIndex p 0)) × (h .second .pitch ≡ pitch bytes (gainIndex p 1))
-  unfolding Spec.half Spec.first Spec.second Spec.params Spec.decodeSubframe Spec.traced Spec.splitParams Gain.decode Gain.step pitch
-  pitches = (refl, refl)
+  pub pitch-gains : (h .first .«pitch_gain» ≡ pitchGain bytes (gainIndex p 0)) × (h .second .«pitch_gain» ≡ pitchGain bytes (gainIndex p 1))
+  unfolding Spec.half Spec.first Spec.second Spec.params Spec.decodeSubframe Spec.traced Spec.splitParams Gain.decode Gain.step pitchGain
+  pitch-gains = (refl, refl)
 
   -- ---- the spectrum
   pub lpcs : (h .first .lpc ≡ interpolatePair (core .lsp) lsp .first) × (h .second .lpc ≡ interpolatePair (core .lsp) lsp .second)
@@ -63,7 +64,7 @@ module _ (words : List ℤ) (bytes : List ℕ) (core : Core) (lsp : List ℤ) (p
   lpcs = (refl, refl)
 
   -- ---- the past
-  pub histories : (h .first .«gain_history» ≡ core .gains) × (h .second .«gain_history» ≡ pushed bytes (core .gains) (gainIndex p 0))
+  pub histories : (h .first .gains ≡ core .gains) × (h .second .gains ≡ pushed bytes (core .gains) (gainIndex p 0))
   unfolding Spec.half Spec.first Spec.second Spec.params Spec.decodeSubframe Spec.traced Spec.splitParams Gain.decode Gain.step pushed
   histories = (refl, refl)
 
@@ -74,12 +75,12 @@ module _ (words : List ℤ) (bytes : List ℕ) (core : Core) (lsp : List ℤ) (p
   secondInnovation = Spec.innovation words (Spec.splitParams (core .lsp) lsp p .second) (left bytes (gainIndex p 0)) (core .«last_half_lag») .code
 
   pub innovations : (h .first .innovation ≡ firstInnovation) × (h .second .innovation ≡ secondInnovation)
-  unfolding Spec.half Spec.first Spec.second Spec.params Spec.decodeSubframe Spec.traced Spec.splitParams Gain.decode Gain.step left pitch
+  unfolding Spec.half Spec.first Spec.second Spec.params Spec.decodeSubframe Spec.traced Spec.splitParams Gain.decode Gain.step left pitchGain
   innovations = (refl, refl)
 
-  pub codes : (h .first .code ≡ Gain.decode bytes (core .gains) (gainIndex p 0) firstInnovation .code) × (h .second .code ≡ Gain.decode bytes (pushed bytes (core .gains) (gainIndex p 0)) (gainIndex p 1) secondInnovation .code)
-  unfolding Spec.half Spec.first Spec.second Spec.params Spec.decodeSubframe Spec.traced Spec.splitParams Gain.decode Gain.step left pitch pushed
-  codes = (refl, refl)
+  pub code-gains : (h .first .«code_gain» ≡ Gain.decode bytes (core .gains) (gainIndex p 0) firstInnovation .«code_gain») × (h .second .«code_gain» ≡ Gain.decode bytes (pushed bytes (core .gains) (gainIndex p 0)) (gainIndex p 1) secondInnovation .«code_gain»)
+  unfolding Spec.half Spec.first Spec.second Spec.params Spec.decodeSubframe Spec.traced Spec.splitParams Gain.decode Gain.step left pitchGain pushed
+  code-gains = (refl, refl)
 
   -- ---- what the next half starts from
   pub left-lsp : h .core .lsp ≡ lsp
@@ -87,7 +88,7 @@ module _ (words : List ℤ) (bytes : List ℕ) (core : Core) (lsp : List ℤ) (p
   left-lsp = refl
 
   pub left-fixed : h .core .«sharpen_fixed» ≡ left bytes (gainIndex p 1)
-  unfolding Spec.half Spec.second Spec.params Spec.decodeSubframe Spec.traced Spec.splitParams Gain.decode Gain.step left pitch
+  unfolding Spec.half Spec.second Spec.params Spec.decodeSubframe Spec.traced Spec.splitParams Gain.decode Gain.step left pitchGain
   left-fixed = refl
 
   pub left-lag : h .core .«last_half_lag» ≡ secondLag .integer

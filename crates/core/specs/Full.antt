@@ -43,36 +43,36 @@ pub record Full : Type 0 where
 -- what a subframe leaves: the core and the gain history, its 80 samples of `out`, and its trace
 pub record Stepped : Type 0 where
   pub core : Full
-  pub gain : List Float
+  pub gains : List Float
   pub out : List ℤ
   pub trace : SubframeTrace
 
 -- from `gain.decode` on, by the excitation with the prediction in it, the second gain of sharpening and the innovation as it is by then
 unfoldable pub finished : List ℕ → HalfParams → ℕ → Full → List Float → List ℤ → Lag → ℕ → List ℤ → ℤ → ℕ → List ℤ → Stepped
-finished bytes p sub core gain lpc lag start predicted voiced class code =
-    let gains : Decoded = Gain.decode bytes gain (Bits.gainIndex p sub) code in
-    let exc : List ℤ = Spec.mix (gains .pitch) (gains .code) code start predicted in
+finished bytes p sub core gains lpc lag start predicted voiced class code =
+    let g : Decoded = Gain.decode bytes gains (Bits.gainIndex p sub) code in
+    let exc : List ℤ = Spec.mix (g .«pitch_gain») (g .«code_gain») code start predicted in
     let here : List ℤ = take 80 (drop start exc) in
     record {
       core = record {
         «previous_lsp» = core .«previous_lsp»;
         excitation = exc;
         «synthesis_memory» = Synth.memory lpc (core .«synthesis_memory») here;
-        «sharpen_fixed» = clamp (pos 3277) (pos 13017) (gains .pitch);
+        «sharpen_fixed» = clamp (pos 3277) (pos 13017) (g .«pitch_gain»);
         «sharpen_voiced» = voiced;
         «last_half_lag» = core .«last_half_lag»;
         «previous_lag» = lag .integer;
         «output_filter» = core .«output_filter»;
       };
-      gain = gains .history;
+      gains = g .gains;
       out = Synth.synthesis lpc (core .«synthesis_memory») here;
       trace = record {
         lag = lag;
         «code_class» = class;
         «gain_index» = Bits.gainIndex p sub;
-        pitch = gains .pitch;
-        code = gains .code;
-        «gain_history» = gain;
+        «pitch_gain» = g .«pitch_gain»;
+        «code_gain» = g .«code_gain»;
+        gains = gains;
         lpc = lpc;
         innovation = code;
         «mixed_excitation» = here;
@@ -81,7 +81,7 @@ finished bytes p sub core gain lpc lag start predicted voiced class code =
 
 -- subframe sub, 0 or 1. The second lag is relative to what `previous_lag` holds by then; classes 5 and 1 to 2 take what `sharpen_voiced` holds by then
 unfoldable pub subframe : List ℤ → List ℕ → HalfParams → Pair → ℕ → Full → List Float → Stepped
-subframe words bytes p lpcs sub core gain =
+subframe words bytes p lpcs sub core gains =
     let lpc : List ℤ = cond (eqb sub 0) (lpcs .first) (lpcs .second) in
     let lag : Lag = cond (eqb sub 0) (Pitch.decodeAbsolute (p .«absolute_pitch»)) (Pitch.decodeRelative (p .«relative_pitch») (core .«previous_lag»)) in
     let start : ℕ = 154 + 80 * sub in
@@ -92,12 +92,12 @@ subframe words bytes p lpcs sub core gain =
     let class : ℕ = innovation .class in
     let g : ℤ = cond (eqb class 5 || (leb 1 class && ltb class 3)) (sharpen .voiced) (sharpen .fixed) in
     let code : List ℤ = cond (ltZ (lag .integer) (pos 80)) (sharpenBuffered (Pitch.interp words) (innovation .code) lag g) (innovation .code) in
-    finished bytes p sub core gain lpc lag start predicted (sharpen .voiced) class code
+    finished bytes p sub core gains lpc lag start predicted (sharpen .voiced) class code
 
 -- what a half leaves: the core and the gain history, its 160 samples, and both traces
 pub record Decoded160 : Type 0 where
   pub core : Full
-  pub gain : List Float
+  pub gains : List Float
   pub out : List ℤ
   pub first : SubframeTrace
   pub second : SubframeTrace
@@ -136,14 +136,14 @@ ended words core out = record {
 unfoldable pub joined : List ℤ → Stepped → Stepped → Decoded160
 joined words a b =
     let out : List ℤ = a .out ++ b .out in
-    record { core = ended words (b .core) out; gain = b .gain; out = Postfilter.outputs words (b .core .«output_filter») out; first = a .trace; second = b .trace }
+    record { core = ended words (b .core) out; gains = b .gains; out = Postfilter.outputs words (b .core .«output_filter») out; first = a .trace; second = b .trace }
 
 -- `decode`
 unfoldable pub decode : List ℤ → List ℕ → Full → List ℤ → HalfParams → List Float → Decoded160
-decode words bytes core lsp p gain =
+decode words bytes core lsp p gains =
     let lpcs : Pair = Lsp.interpolatePair (core .«previous_lsp») lsp in
-    let a : Stepped = subframe words bytes p lpcs 0 (replaced core lsp) gain in
-    let b : Stepped = subframe words bytes p lpcs 1 (a .core) (a .gain) in
+    let a : Stepped = subframe words bytes p lpcs 0 (replaced core lsp) gains in
+    let b : Stepped = subframe words bytes p lpcs 1 (a .core) (a .gains) in
     joined words a b
 
 -- `new`, by the ten words of LSP_MEAN
@@ -161,14 +161,14 @@ new lspMean = record {
 
 -- ---- what our state has of it: the first 154 samples, and neither `sharpen_voiced` nor `previous_lag`
 unfoldable pub restricted : Full → List Float → Core
-restricted core gain = record {
+restricted core gains = record {
   lsp = core .«previous_lsp»;
   excitation = take 154 (core .excitation);
   memory = core .«synthesis_memory»;
   «sharpen_fixed» = core .«sharpen_fixed»;
   «last_half_lag» = core .«last_half_lag»;
   filter = core .«output_filter»;
-  gains = gain;
+  gains = gains;
 }
 
 -- and what is filled up with anything in the other places

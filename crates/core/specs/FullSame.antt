@@ -1,18 +1,17 @@
 -- What our state leaves out of core.rs's does not matter. With anything in the last 160 of the 314 samples, in `sharpen_voiced` and in `previous_lag`, core.rs's half
 -- answers our samples and traces, and what it leaves restricts to what ours leaves; there `previous_lag` is `last_half_lag` again.
 use native.Mathlib.Omega.{arith}
-use mathlib.Core.Bool.{Bool, cond, _||_, _&&_}
+use mathlib.Core.Bool.{cond, _||_, _&&_}
 use mathlib.Core.Path.{_≡_, refl, sym, ap, subst, _∙_}
-use mathlib.Core.List.{List, _++_}
+use mathlib.Core.List.{List}
 use Prim.Native.Nat.{ℕ, zero, suc, _+_, _*_}
 use lib.Dec.{eqb, leb, ltb}
 use borrow.Author.Tests.{ne-eqb, le-leb, le-ltb}
 use lib.IntN.{ℤ, pos}
-use lib.ListN.{length, getD, take, drop, length-append, length-drop, take-append-drop}
+use lib.ListN.{length, take, drop, length-append, length-drop, take-append-drop}
 use lib.Seq.{take-at, length-take-le}
 use lib.Signed.{ltZ}
 use lib.Ieee.{Float}
-use Rattle.fixed.specs.Fixed.{clamp}
 use Rattle.bits.specs.declared.HalfParams.{HalfParams}
 use Rattle.bits.specs.Bits as Bits
 use Rattle.bits.specs.Widths.{InWidths}
@@ -64,7 +63,7 @@ module _ (words : List ℤ) (bytes : List ℕ) (p : HalfParams) where
   given lpcs sub core = record {
     lpc = cond (eqb sub 0) (lpcs .first) (lpcs .second);
     lag = cond (eqb sub 0) (Pitch.decodeAbsolute (p .«absolute_pitch»)) (Pitch.decodeRelative (p .«relative_pitch») (core .«previous_lag»));
-    code = cond (eqb sub 0) (p .code0) (p .code1);
+    index = cond (eqb sub 0) (p .code0) (p .code1);
     «gain_index» = Bits.gainIndex p sub;
   }
 
@@ -81,19 +80,19 @@ module _ (words : List ℤ) (bytes : List ℕ) (p : HalfParams) where
       «previous_lag» = s .trace .lag .integer;
       «output_filter» = core .«output_filter»;
     };
-    gain = s .gains;
+    gains = s .gains;
     out = Synth.synthesis (s .trace .lpc) (core .«synthesis_memory») (s .trace .«mixed_excitation»);
     trace = s .trace;
   }
 
-  subframe-same : (lpcs : Pair) (sub : ℕ) (core : Full) (gain : List Float) → Pitch.Sane (given lpcs sub core .lag)
-      → subframe words bytes p lpcs sub core gain ≡ left (154 + 80 * sub) core (Spec.decodeSubframe words bytes (core .excitation) (154 + 80 * sub) (given lpcs sub core) (core .«sharpen_fixed») (core .«last_half_lag») gain)
+  subframe-same : (lpcs : Pair) (sub : ℕ) (core : Full) (gains : List Float) → Pitch.Sane (given lpcs sub core .lag)
+      → subframe words bytes p lpcs sub core gains ≡ left (154 + 80 * sub) core (Spec.decodeSubframe words bytes (core .excitation) (154 + 80 * sub) (given lpcs sub core) (core .«sharpen_fixed») (core .«last_half_lag») gains)
   unfolding subframe finished Spec.decodeSubframe Spec.traced Spec.innovation Spec.shaped Spec.sharpenGains Spec.excited Spec.part Spec.clamped
-  subframe-same lpcs sub core gain s =
+  subframe-same lpcs sub core gains s =
       let g : SubframeParams = given lpcs sub core in
       let sharpen : InterpolationGains = Spec.sharpenGains (g .lpc) (g .lag) (core .«sharpen_fixed») (core .«last_half_lag») in
-      ap (finished bytes p sub core gain (g .lpc) (g .lag) (154 + 80 * sub) (Pitch.predict (Pitch.interp words) (core .excitation) (154 + 80 * sub) (g .lag)) (sharpen .voiced) (Codebook.decode words (g .code) .class))
-      (shaped-same words (g .code) (g .lag) sharpen s)
+      ap (finished bytes p sub core gains (g .lpc) (g .lag) (154 + 80 * sub) (Pitch.predict (Pitch.interp words) (core .excitation) (154 + 80 * sub) (g .lag)) (sharpen .voiced) (Codebook.decode words (g .index) .class))
+      (shaped-same words (g .index) (g .lag) sharpen s)
 
 -- ---- a half
 -- what core.rs answers, beside ours
@@ -101,7 +100,7 @@ pub record Answers (words : List ℤ) (bytes : List ℕ) (c : Core) (lsp : List 
   pub samples : d .out ≡ Spec.samples words bytes c lsp p
   pub first : d .first ≡ Spec.half words bytes c lsp p .first
   pub second : d .second ≡ Spec.half words bytes c lsp p .second
-  pub next : restricted (d .core) (d .gain) ≡ Spec.half words bytes c lsp p .core
+  pub next : restricted (d .core) (d .gains) ≡ Spec.half words bytes c lsp p .core
   pub long : length (d .core .excitation) ≡ 314
   pub lags : d .core .«previous_lag» ≡ d .core .«last_half_lag»
 
@@ -138,11 +137,11 @@ module _ (words : List ℤ) (bytes : List ℕ) (c : Core) (lsp : List ℤ) (p : 
   abbrev b′ : Stepped
   b′ = left words bytes p 234 (a′ .core) (Spec.second words bytes c lsp p)
 
-  second-is : subframe words bytes p lpcs 1 (a .core) (a .gain) ≡ b′
+  second-is : subframe words bytes p lpcs 1 (a .core) (a .gains) ≡ b′
   unfolding replaced filled Spec.params Spec.splitParams Spec.first Spec.decodeSubframe Spec.traced
   second-is =
-      ap (λ (x : Stepped). subframe words bytes p lpcs 1 (x .core) (x .gain)) first-is
-      ∙ subframe-same words bytes p lpcs 1 (a′ .core) (a′ .gain) (relative-sane (p .«relative_pitch») _ (w .«relative_pitch»))
+      ap (λ (x : Stepped). subframe words bytes p lpcs 1 (x .core) (x .gains)) first-is
+      ∙ subframe-same words bytes p lpcs 1 (a′ .core) (a′ .gains) (relative-sane (p .«relative_pitch») _ (w .«relative_pitch»))
       ∙ ap (left words bytes p 234 (a′ .core)) (Room.second-same words bytes c lsp p w kept stale many)
 
   both-are : decode words bytes (filled c stale voiced lag) lsp p (c .gains) ≡ joined words a′ b′
@@ -176,14 +175,14 @@ module _ (words : List ℤ) (bytes : List ℕ) (c : Core) (lsp : List ℤ) (p : 
   half-same = rw both-are joined-answers
 
 -- ---- and so with every full core of 314 samples, by what our state has of it
-refilled : (core : Full) (gain : List Float) → filled (restricted core gain) (drop 154 (core .excitation)) (core .«sharpen_voiced») (core .«previous_lag») ≡ core
+refilled : (core : Full) (gains : List Float) → filled (restricted core gains) (drop 154 (core .excitation)) (core .«sharpen_voiced») (core .«previous_lag») ≡ core
 unfolding filled restricted
-refilled core gain = rw (take-append-drop 154 (core .excitation))
+refilled core gains = rw (take-append-drop 154 (core .excitation))
 
-pub full-same : (words : List ℤ) (bytes : List ℕ) (core : Full) (lsp : List ℤ) (p : HalfParams) (gain : List Float) → InWidths p → length (core .excitation) ≡ 314
-    → Answers words bytes (restricted core gain) lsp p (decode words bytes core lsp p gain)
+pub full-same : (words : List ℤ) (bytes : List ℕ) (core : Full) (lsp : List ℤ) (p : HalfParams) (gains : List Float) → InWidths p → length (core .excitation) ≡ 314
+    → Answers words bytes (restricted core gains) lsp p (decode words bytes core lsp p gains)
 unfolding restricted
-full-same words bytes core lsp p gain w long =
+full-same words bytes core lsp p gains w long =
     let e : List ℤ = core .excitation in
-    subst (λ (x : Full). Answers words bytes (restricted core gain) lsp p (decode words bytes x lsp p gain)) (refilled core gain)
-    (half-same words bytes (restricted core gain) lsp p w (length-take-le 154 e (omega arith)) (drop 154 e) (length-drop 154 e ∙ omega arith) (core .«sharpen_voiced») (core .«previous_lag»))
+    subst (λ (x : Full). Answers words bytes (restricted core gains) lsp p (decode words bytes x lsp p gains)) (refilled core gains)
+    (half-same words bytes (restricted core gains) lsp p w (length-take-le 154 e (omega arith)) (drop 154 e) (length-drop 154 e ∙ omega arith) (core .«sharpen_voiced») (core .«previous_lag»))

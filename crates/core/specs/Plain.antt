@@ -9,15 +9,15 @@ use Rattle.fixed.specs.Sums.{fold-fits}
 use Rattle.fixed.specs.Plain.{Short, short-mul, shift-fits}
 use Rattle.core.specs.Core.{mixed}
 
-pub mixed-plain : (pitch code a c : ℤ) → Short pitch → Short code → Short a → Short c → mixed pitch code a c ≡ hi (sat ((mul a pitch +ℤ mul c code *ℤ pos 2) *ℤ pos 2 +ℤ pos 32768))
+pub mixed-plain : (pitchGain codeGain a c : ℤ) → Short pitchGain → Short codeGain → Short a → Short c → mixed pitchGain codeGain a c ≡ hi (sat ((mul a pitchGain +ℤ mul c codeGain *ℤ pos 2) *ℤ pos 2 +ℤ pos 32768))
 unfolding mixed
-mixed-plain pitch code a c p q r s =
-    let x : ℤ = mul a pitch in
-    let y : ℤ = mul c code *ℤ pos 2 in
-    let b : natAbs x ≤ 2147483648 = short-mul a pitch r p in
-    let d : natAbs y ≤ 4294967296 = abs-mul-le (mul c code) (pos 2) 2147483648 2 (short-mul c code s q) (omega arith) in
+mixed-plain pitchGain codeGain a c p q r s =
+    let x : ℤ = mul a pitchGain in
+    let y : ℤ = mul c codeGain *ℤ pos 2 in
+    let b : natAbs x ≤ 2147483648 = short-mul a pitchGain r p in
+    let d : natAbs y ≤ 4294967296 = abs-mul-le (mul c codeGain) (pos 2) 2147483648 2 (short-mul c codeGain s q) (omega arith) in
     let e : natAbs ((x +ℤ y) *ℤ pos 2) ≤ 12884901888 = abs-mul-le (x +ℤ y) (pos 2) 6442450944 2 (omega (arith, abs-add x y)) (omega arith) in
-    ap (λ (z : ℤ). hi (sat (fold (shift (fold x z) (pos 1)) (pos 32768)))) (shift-fits (mul c code) 1 (omega arith) (omega arith))
+    ap (λ (z : ℤ). hi (sat (fold (shift (fold x z) (pos 1)) (pos 32768)))) (shift-fits (mul c codeGain) 1 (omega arith) (omega arith))
     ∙ ap (λ (z : ℤ). hi (sat (fold (shift z (pos 1)) (pos 32768)))) (fold-fits x y (omega arith))
     ∙ ap (λ (z : ℤ). hi (sat (fold z (pos 32768)))) (shift-fits (x +ℤ y) 1 (omega arith) (omega arith))
     ∙ ap (λ (z : ℤ). hi (sat z)) (fold-fits ((x +ℤ y) *ℤ pos 2) (pos 32768) (omega arith))

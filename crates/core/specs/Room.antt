@@ -59,17 +59,17 @@ module _ (taps : List ℤ) (l : Lag) (s : Pitch.Sane l) (start n : ℕ) (h : 154
       ap (λ (z : ℤ). hi (sat (fold z (pos 32768)))) (interpolated-same taps (Pitch.phase l) (start + n - Pitch.delay l) (start + n) x y e (omega arith))
 
 -- ---- a subframe
-pub length-excited : (words : List ℤ) (start : ℕ) (z : List ℤ) (l : Lag) (pitch code : ℤ) (innovation : List ℤ) → length (Spec.excited words z start l pitch code innovation) ≡ length z
+pub length-excited : (words : List ℤ) (start : ℕ) (z : List ℤ) (l : Lag) (pitchGain codeGain : ℤ) (innovation : List ℤ) → length (Spec.excited words z start l pitchGain codeGain innovation) ≡ length z
 unfolding Spec.excited Spec.mix
-length-excited words start z l pitch code innovation = length-rewritten _ start _ 80 ∙ length-predict (Pitch.interp words) z start l
+length-excited words start z l pitchGain codeGain innovation = length-rewritten _ start _ 80 ∙ length-predict (Pitch.interp words) z start l
 
 module _ (words : List ℤ) (start : ℕ) (x y : List ℤ) (h : 154 ≤ start) (a : start + 80 ≤ length x) (b : start + 80 ≤ length y) (e : Agree start x y) where
   -- its excitation is made of what stands before it
-  pub excited-agree : (l : Lag) → Pitch.Sane l → (pitch code : ℤ) (innovation : List ℤ) → Agree (start + 80) (Spec.excited words x start l pitch code innovation) (Spec.excited words y start l pitch code innovation)
+  pub excited-agree : (l : Lag) → Pitch.Sane l → (pitchGain codeGain : ℤ) (innovation : List ℤ) → Agree (start + 80) (Spec.excited words x start l pitchGain codeGain innovation) (Spec.excited words y start l pitchGain codeGain innovation)
   unfolding Spec.excited Spec.mix Pitch.predict
-  excited-agree l s pitch code innovation =
+  excited-agree l s pitchGain codeGain innovation =
       let taps = Pitch.interp words in
-      held _ start _ _ (start + 80) (λ n u v g r. ap (λ (z : ℤ). Spec.mixed pitch code z (getD innovation n (pos 0))) (agree-at (start + 80) (start + n) u v r g)) 80 (omega arith)
+      held _ start _ _ (start + 80) (λ n u v g r. ap (λ (z : ℤ). Spec.mixed pitchGain codeGain z (getD innovation n (pos 0))) (agree-at (start + 80) (start + n) u v r g)) 80 (omega arith)
       (grown (Pitch.predicted taps (Pitch.phase l) (Pitch.delay l) start) start x y (λ n u v r. predicted-same taps l s start n h u v r) 80 a b e)
 
   part-same : (u v : List ℤ) → length u ≡ length x → length v ≡ length y → Agree (start + 80) u v → Spec.part u start ≡ Spec.part v start

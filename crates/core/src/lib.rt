@@ -45,10 +45,11 @@ pub struct Core {
 pub struct SubframeParams {
     pub lpc: [i16; 11],
     pub lag: Lag,
-    pub code: u16,
+    pub index: u16,
     pub gain_index: usize,
 }
 
+// Those of both subframes of a half.
 pub struct ParamsPair {
     pub first: SubframeParams,
     pub second: SubframeParams,
@@ -59,9 +60,9 @@ pub struct SubframeTrace {
     pub lag: Lag,
     pub code_class: usize,
     pub gain_index: usize,
-    pub pitch: i16,
-    pub code: i16,
-    pub gain_history: [f32; 4],
+    pub pitch_gain: i16,
+    pub code_gain: i16,
+    pub gains: [f32; 4],
     pub lpc: [i16; 11],
     pub innovation: [i16; 80],
     pub mixed_excitation: [i16; 80],
@@ -82,33 +83,33 @@ pub struct Half {
 }
 
 // A sample: the predicted one by the pitch gain, and the innovation's by the code gain.
-fn mixed(pitch: i16, code: i16, a: i16, c: i16) -> i16
-    ensures { λ r. ⌜ r ≡ Spec.mixed pitch code a c ⌝ }
+fn mixed(pitch_gain: i16, code_gain: i16, a: i16, c: i16) -> i16
+    ensures { λ r. ⌜ r ≡ Spec.mixed «pitch_gain» «code_gain» a c ⌝ }
 {
-    let sum = fold(mul(a, pitch), shift(mul(c, code), 1));
+    let sum = fold(mul(a, pitch_gain), shift(mul(c, code_gain), 1));
     hi(sat(fold(shift(sum, 1), 32768)))
 }
 
-fn mix(pitch: i16, code: i16, innovation: &[i16; 80], start: usize, exc: &mut [i16])
+fn mix(pitch_gain: i16, code_gain: i16, innovation: &[i16; 80], start: usize, exc: &mut [i16])
     requires { ⌜ start + 80 ≤ length (now exc) ⌝ }
-    ensures { λ _. ⌜ now (exc .exit) ≡ Spec.mix pitch code (now (innovation .entry)) start (now (exc .entry)) ⌝ }
+    ensures { λ _. ⌜ now (exc .exit) ≡ Spec.mix «pitch_gain» «code_gain» (now (innovation .entry)) start (now (exc .entry)) ⌝ }
 {
     for n in 0..80 {
         let place = start + n;
-        let y = mixed(pitch, code, exc[place], innovation[n]);
+        let y = mixed(pitch_gain, code_gain, exc[place], innovation[n]);
         exc[place] = y;
     }
 }
 
-fn clamped(pitch: i16) -> i16
-    ensures { λ r. ⌜ r ≡ Spec.clamped pitch ⌝ }
+fn clamped(pitch_gain: i16) -> i16
+    ensures { λ r. ⌜ r ≡ Spec.clamped «pitch_gain» ⌝ }
 {
-    if pitch < 3277 {
+    if pitch_gain < 3277 {
         3277
-    } else if 13017 < pitch {
+    } else if 13017 < pitch_gain {
         13017
     } else {
-        pitch
+        pitch_gain
     }
 }
 
@@ -155,13 +156,13 @@ fn innovation(
     sharpen_fixed: i16,
     last_half_lag: i16,
 ) -> Innovation
-    requires { ⌜ SoundWords (now words) ⌝ ∗ ⌜ Codebook.digitsFit (now words) (params .code) ≡ true ⌝ ∗ ⌜ Pitch.Sane (params .lag) ⌝ }
+    requires { ⌜ SoundWords (now words) ⌝ ∗ ⌜ Codebook.digitsFit (now words) (params .index) ≡ true ⌝ ∗ ⌜ Pitch.Sane (params .lag) ⌝ }
     ensures { λ r. ⌜ r ≡ Spec.innovation (now (words .entry)) params «sharpen_fixed» «last_half_lag» ⌝ }
 {
     let lpc = params.lpc;
     let lag = params.lag;
     let g = sharpen_gains(lpc, lag, sharpen_fixed, last_half_lag);
-    shaped(words, codebook::decode(words, params.code), lag, g)
+    shaped(words, codebook::decode(words, params.index), lag, g)
 }
 
 fn part(exc: &[i16], start: usize) -> [i16; 80]
@@ -180,15 +181,15 @@ fn excite(
     exc: &mut [i16],
     start: usize,
     lag: Lag,
-    pitch: i16,
-    code: i16,
+    pitch_gain: i16,
+    code_gain: i16,
     innovation: &[i16; 80],
 )
     requires { ⌜ (length (now words) ≡ WORDS) × (154 ≤ start) × (start + 80 ≤ length (now exc)) × Pitch.Sane lag ⌝ }
-    ensures { λ _. ⌜ now (exc .exit) ≡ Spec.excited (now (words .entry)) (now (exc .entry)) start lag pitch code (now (innovation .entry)) ⌝ }
+    ensures { λ _. ⌜ now (exc .exit) ≡ Spec.excited (now (words .entry)) (now (exc .entry)) start lag «pitch_gain» «code_gain» (now (innovation .entry)) ⌝ }
 {
     pitch::predict(words, exc, start, lag);
-    mix(pitch, code, innovation, start, exc);
+    mix(pitch_gain, code_gain, innovation, start, exc);
 }
 
 fn traced(
@@ -203,21 +204,21 @@ fn traced(
     let lag = params.lag;
     let lpc = params.lpc;
     let code = innovation.code;
-    let history = g.history;
+    let next = g.gains;
     Subframe {
         trace: SubframeTrace {
             lag,
             code_class: innovation.class,
             gain_index: params.gain_index,
-            pitch: g.pitch,
-            code: g.code,
-            gain_history: gains,
+            pitch_gain: g.pitch_gain,
+            code_gain: g.code_gain,
+            gains,
             lpc,
             innovation: code,
             mixed_excitation: samples,
         },
-        sharpen_fixed: clamped(g.pitch),
-        gains: history,
+        sharpen_fixed: clamped(g.pitch_gain),
+        gains: next,
     }
 }
 
@@ -240,7 +241,7 @@ fn decode_subframe(
     let code = i.code;
     let g = gain::decode(bytes, gains, params.gain_index, &code);
     let lag = params.lag;
-    excite(words, exc, start, lag, g.pitch, g.code, &code);
+    excite(words, exc, start, lag, g.pitch_gain, g.code_gain, &code);
     let samples = part(&exc[..], start);
     traced(params, gains, i, g, samples)
 }
@@ -258,13 +259,13 @@ fn split_params(previous: [i16; 10], present: [i16; 10], params: HalfParams) -> 
         first: SubframeParams {
             lpc: a,
             lag,
-            code: params.code0,
+            index: params.code0,
             gain_index: gain_index(params, 0),
         },
         second: SubframeParams {
             lpc: b,
             lag: next,
-            code: params.code1,
+            index: params.code1,
             gain_index: gain_index(params, 1),
         },
     }
@@ -333,7 +334,7 @@ pub fn decode(
 {
     let previous = core.lsp;
     let past = core.excitation;
-    let history = core.gains;
+    let past_gains = core.gains;
     let memory = core.memory;
     let filter = core.filter;
     let sharpen_fixed = core.sharpen_fixed;
@@ -350,7 +351,7 @@ pub fn decode(
         one,
         sharpen_fixed,
         last_half_lag,
-        history,
+        past_gains,
     );
     let first = a.trace;
     let between = a.gains;
@@ -365,7 +366,7 @@ pub fn decode(
         between,
     );
     let second = b.trace;
-    let gains = b.gains;
+    let after = b.gains;
     let lag = second.lag;
     let left = synthesise_both(first, second, memory, samples);
     let run = postfilter::run(filter, words, samples);
@@ -378,7 +379,7 @@ pub fn decode(
             sharpen_fixed: b.sharpen_fixed,
             last_half_lag: lag.integer,
             filter: run,
-            gains,
+            gains: after,
         },
         first,
         second,

@@ -1,5 +1,5 @@
 -- mod.rs's decode: the two halves of an accepted frame, one after the other, and what is reported of their subframes.
-use Prim.Native.Nat.{ℕ, _<_, _≤_}
+use Prim.Native.Nat.{ℕ}
 use mathlib.Core.List.{List, [], _∷_, _++_}
 use mathlib.Core.Bool.{Bool, _&&_}
 use lib.IntN.{ℤ, pos}
@@ -53,19 +53,19 @@ unfoldable pub halfSamples : List ℤ → List ℕ → Core → List Float → H
 halfSamples words bytes core residuals p = HalfFrame.samples words bytes core (lsp words bytes residuals p) p
 
 -- ---- what is reported
--- index, correction, history, amplitude, energy, code gain, pitch gain, lag and class, each as f32
+-- index, correction, gain history, amplitude, energy, code gain, pitch gain, lag and class, each as f32
 unfoldable pub figures : List ℕ → SubframeTrace → List Float
 figures bytes t =
     ofInt binary32 (pos (t .«gain_index»)) ∷
     logGain bytes (t .«gain_index») ∷
-    getD (t .«gain_history») 0 nan ∷
-    getD (t .«gain_history») 1 nan ∷
-    getD (t .«gain_history») 2 nan ∷
-    getD (t .«gain_history») 3 nan ∷
-    Gain.amplitude bytes (t .«gain_history») (t .«gain_index») ∷
+    getD (t .gains) 0 nan ∷
+    getD (t .gains) 1 nan ∷
+    getD (t .gains) 2 nan ∷
+    getD (t .gains) 3 nan ∷
+    Gain.amplitude bytes (t .gains) (t .«gain_index») ∷
     Gain.energy (t .innovation) ∷
-    ofInt binary32 (t .code) ∷
-    ofInt binary32 (t .pitch) ∷
+    ofInt binary32 (t .«code_gain») ∷
+    ofInt binary32 (t .«pitch_gain») ∷
     ofInt binary32 (t .lag .integer) ∷
     ofInt binary32 (pos (t .«code_class»)) ∷
     []
@@ -80,13 +80,6 @@ subframes bytes x y = reported bytes (x .first) ∷ reported bytes (x .second) �
 -- and their excitation
 unfoldable pub excitation : Half → Half → List ℤ
 excitation x y = (x .first .«mixed_excitation» ++ x .second .«mixed_excitation») ++ (y .first .«mixed_excitation» ++ y .second .«mixed_excitation»)
-
--- the index and the class of both subframes of a half have floats of their own
-pub record Named (x : Half) : Type 0 where
-  pub index-first : x .first .«gain_index» < 128
-  pub index-second : x .second .«gain_index» < 128
-  pub class-first : x .first .«code_class» ≤ 5
-  pub class-second : x .second .«code_class» ≤ 5
 
 -- ---- the frame
 -- its halves: the second starts from what the first leaves

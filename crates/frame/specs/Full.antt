@@ -14,8 +14,8 @@ use Rattle.frame.specs.Frame.{residual, lsp, reported}
 -- core, spectral history (three residuals, one after the other) and gain history
 pub record Native : Type 0 where
   pub core : Core.Full
-  pub spectrum : List Float
-  pub gain : List Float
+  pub residuals : List Float
+  pub gains : List Float
 
 -- a turn of its loop over the halves: `spectrum.decode`, and then `core.decode`
 pub record Turn : Type 0 where
@@ -26,9 +26,9 @@ pub record Turn : Type 0 where
 
 unfoldable pub turn : List ℤ → List ℕ → Native → HalfParams → Turn
 turn words bytes n p =
-    let d : Core.Decoded160 = Core.decode words bytes (n .core) (lsp words bytes (n .spectrum) p) p (n .gain) in
+    let d : Core.Decoded160 = Core.decode words bytes (n .core) (lsp words bytes (n .residuals) p) p (n .gains) in
     record {
-      native = record { core = d .core; spectrum = Spectral.push (n .spectrum) (residual words bytes p); gain = d .gain };
+      native = record { core = d .core; residuals = Spectral.push (n .residuals) (residual words bytes p); gains = d .gains };
       pcm = d .out;
       first = d .first;
       second = d .second;

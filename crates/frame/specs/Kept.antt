@@ -1,5 +1,5 @@
 -- What a frame of an accepted set leaves: residuals and gains that are as many as before, finite and within 131,072.
-use Prim.Native.Nat.{ℕ, _+_, _<_}
+use Prim.Native.Nat.{ℕ}
 use mathlib.Core.Path.{_≡_, _∙_}
 use mathlib.Core.List.{List}
 use native.Mathlib.Omega.{arith}

@@ -4,10 +4,12 @@ ghost use mathlib.Core.Bool.{true};
 ghost use mathlib.Core.List.{_++_};
 ghost use Prim.Native.Nat.{_<_, _≤_};
 ghost use lib.ListN.{length};
+ghost use Rattle.tables.specs.Places.{BYTES};
 ghost use Rattle.tables.specs.Sound.{Sound};
 ghost use Rattle.bits.specs.Widths.{InWidths};
 ghost use Rattle.tables.specs.SoundWords.{SoundWords};
 ghost use Rattle.frame.specs.Frame as Frame;
+ghost use Rattle.frame.specs.Named.{Named};
 use bits::FrameParams;
 use bits::HalfParams;
 use core::Core;
@@ -17,7 +19,7 @@ use slices::copy;
 
 // What is reported of a subframe.
 pub struct Subframe {
-    // Gain index, correction, the four numbers of the history, amplitude, energy, code gain, pitch gain, lag, class.
+    // Gain index, correction, the four numbers of the gain history, amplitude, energy, code gain, pitch gain, lag, class.
     pub figures: [f32; 12],
     pub lag: i16,
     pub frac: i16,
@@ -31,6 +33,7 @@ pub struct Step {
     pub residuals: [f32; 30],
 }
 
+// Both halves of a frame, as they were decoded.
 pub struct Both {
     pub first: Step,
     pub second: Step,
@@ -63,6 +66,7 @@ pub fn digits_fit(words: &[i16], f: FrameParams) -> bool
     codebook::digits_fit(words, q.code1)
 }
 
+// The residual that the fields of a half select.
 fn residual(words: &[i16], bytes: &[u8], p: HalfParams) -> [f32; 10]
     requires { ⌜ Sound (now words) (now bytes) ⌝ ∗ ⌜ InWidths p ⌝ }
     ensures { λ r. ⌜ r ≡ Frame.residual (now (words .entry)) (now (bytes .entry)) p ⌝ }
@@ -91,6 +95,7 @@ fn predicted(
     lsp::lsf_to_lsp(words, spectral::quantise_lsf(lsf))
 }
 
+// A half frame, by its fields: its LSPs first, and then the rest.
 fn half(
     words: &[i16],
     bytes: &[u8],
@@ -113,12 +118,13 @@ fn half(
     }
 }
 
+// The twelve figures of a subframe.
 fn figures(bytes: &[u8], t: SubframeTrace) -> [f32; 12]
-    requires { ⌜ length (now bytes) ≡ 3908 ⌝ ∗ ⌜ t .«gain_index» < 128 ⌝ ∗ ⌜ t .«code_class» ≤ 5 ⌝ }
+    requires { ⌜ length (now bytes) ≡ BYTES ⌝ ∗ ⌜ t .«gain_index» < 128 ⌝ ∗ ⌜ t .«code_class» ≤ 5 ⌝ }
     ensures { λ r. ⌜ r ≡ Frame.figures (now (bytes .entry)) t ⌝ }
 {
     let index = t.gain_index;
-    let v = t.gain_history;
+    let v = t.gains;
     let innovation = t.innovation;
     let lag = t.lag;
     let correction = tables::log_gain(bytes, index);
@@ -133,15 +139,16 @@ fn figures(bytes: &[u8], t: SubframeTrace) -> [f32; 12]
         v[3],
         amplitude,
         energy,
-        t.code as f32,
-        t.pitch as f32,
+        t.code_gain as f32,
+        t.pitch_gain as f32,
         lag.integer as f32,
         t.code_class as f32,
     ]
 }
 
+// What is reported of a subframe.
 fn reported(bytes: &[u8], t: SubframeTrace) -> Subframe
-    requires { ⌜ length (now bytes) ≡ 3908 ⌝ ∗ ⌜ t .«gain_index» < 128 ⌝ ∗ ⌜ t .«code_class» ≤ 5 ⌝ }
+    requires { ⌜ length (now bytes) ≡ BYTES ⌝ ∗ ⌜ t .«gain_index» < 128 ⌝ ∗ ⌜ t .«code_class» ≤ 5 ⌝ }
     ensures { λ r. ⌜ r ≡ Frame.reported (now (bytes .entry)) t ⌝ }
 {
     let figures = figures(bytes, t);
@@ -166,6 +173,7 @@ fn put_pair(out: &mut [i16], a: [i16; 80], b: [i16; 80])
     copy(&mut out[80..], &b[..]);
 }
 
+// The excitation of the four subframes, one after the other.
 fn put_excitation(x: Half, y: Half, out: &mut [i16])
     requires { ⌜ length (now out) ≡ 320 ⌝ }
     ensures { λ _. ⌜ now (out .exit) ≡ Frame.excitation x y ⌝ }
@@ -182,8 +190,9 @@ fn put_excitation(x: Half, y: Half, out: &mut [i16])
     put_pair(&mut out[160..], g, h);
 }
 
+// What is reported of the four subframes of two halves.
 fn subframes(bytes: &[u8], x: Half, y: Half) -> [Subframe; 4]
-    requires { ⌜ length (now bytes) ≡ 3908 ⌝ ∗ ⌜ Frame.Named x ⌝ ∗ ⌜ Frame.Named y ⌝ }
+    requires { ⌜ length (now bytes) ≡ BYTES ⌝ ∗ ⌜ Named x ⌝ ∗ ⌜ Named y ⌝ }
     ensures { λ r. ⌜ r ≡ Frame.subframes (now (bytes .entry)) x y ⌝ }
 {
     [
@@ -194,8 +203,9 @@ fn subframes(bytes: &[u8], x: Half, y: Half) -> [Subframe; 4]
     ]
 }
 
+// What a frame leaves, and what is reported of it, by its halves.
 fn report(bytes: &[u8], h: Both) -> Decoded
-    requires { ⌜ length (now bytes) ≡ 3908 ⌝ ∗ ⌜ Frame.Named (h .first .half) ⌝ ∗ ⌜ Frame.Named (h .second .half) ⌝ }
+    requires { ⌜ length (now bytes) ≡ BYTES ⌝ ∗ ⌜ Named (h .first .half) ⌝ ∗ ⌜ Named (h .second .half) ⌝ }
     ensures { λ r. ⌜ r ≡ Frame.report (now (bytes .entry)) h ⌝ }
 {
     let a = h.first;
@@ -238,6 +248,7 @@ fn halves(
     Both { first, second }
 }
 
+// A frame, by its fields: what it leaves and what is reported of it; the samples are written.
 pub fn decode(
     words: &[i16],
     bytes: &[u8],

@@ -42,7 +42,7 @@ weighted v =
 -- the weighted history less half the logarithm of the energy, plus the bias
 unfoldable pub prediction : List Float → Float → Float → Float
 unfolding weighted ln atLeastOne
-prediction history e bias = add (sub (weighted history) (mul (bits 0x3f00_0000) (ln (atLeastOne e)))) bias
+prediction gains e bias = add (sub (weighted gains) (mul (bits 0x3f00_0000) (ln (atLeastOne e)))) bias
 
 -- The argument of the code gain's exponential: under -1, over 10.5, or within the two and carried.
 -- The Rust takes the exponential of every argument. The sorting, which document 01 asks for, changes no gain: below -1 e ^ x is under 0.37 and rounds to 0,
@@ -60,21 +60,21 @@ codeGain (Within x) = quantise 32767 (exp x)
 -- one subframe: both gains, and the history with the correction at its front and its last number gone
 unfoldable pub step : List Float → Float → Float → Float → Float → Decoded
 unfolding quantise codeGain argument prediction
-step history e pitch correction bias = record {
-  pitch = pos (quantise 32767 pitch);
-  code = pos (codeGain (argument (add (prediction history e bias) correction)));
-  history = correction ∷ getD history 0 nan ∷ getD history 1 nan ∷ getD history 2 nan ∷ [];
+step gains e pitchGain correction bias = record {
+  «pitch_gain» = pos (quantise 32767 pitchGain);
+  «code_gain» = pos (codeGain (argument (add (prediction gains e bias) correction)));
+  gains = correction ∷ getD gains 0 nan ∷ getD gains 1 nan ∷ getD gains 2 nan ∷ [];
 }
 
 -- the step of a gain index and a code, by the tables in the bytes
 unfoldable pub decode : List ℕ → List Float → ℕ → List ℤ → Decoded
 unfolding step energy
-decode bytes history index code = step history (energy code) (pitchGain bytes index) (logGain bytes index) (gainBias bytes)
+decode bytes gains index code = step gains (energy code) (pitchGain bytes index) (logGain bytes index) (gainBias bytes)
 
 -- mod.rs's figure: the weighted history, plus the bias, plus the correction
 unfoldable pub amplitude : List ℕ → List Float → ℕ → Float
 unfolding weighted
-amplitude bytes history index = add (add (weighted history) (gainBias bytes)) (logGain bytes index)
+amplitude bytes gains index = add (add (weighted gains) (gainBias bytes)) (logGain bytes index)
 
 -- the 128 log gains, summed in order from 0, divided by 128
 unfoldable pub mean : List ℕ → Float
@@ -97,6 +97,6 @@ unfolding argument ofBits le
 ends = (refl, refl, refl, refl)
 
 -- from a history of zeros, with no energy: the gain is e ^ 0, and the correction comes in at the front
-first : step (replicate 4 (bits 0)) (bits 0) (bits 0x4680_0100) (bits 0) (bits 0) ≡ record { pitch = pos 16384; code = pos 1; history = replicate 4 (bits 0) }
+first : step (replicate 4 (bits 0)) (bits 0) (bits 0x4680_0100) (bits 0) (bits 0) ≡ record { «pitch_gain» = pos 16384; «code_gain» = pos 1; gains = replicate 4 (bits 0) }
 unfolding step Ieee.add Ieee.sub Ieee.mul le ofBits toBits ofInt
 first = refl

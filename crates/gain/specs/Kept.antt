@@ -23,7 +23,7 @@ use Rattle.gain.specs.Ranges.{Bounded, step-bounded, sorted-finite, ampl
 
 module _ {bytes : List ℕ} (s : SoundBytes bytes) where
   module _ (v : List Float) (b : Bounded v) (index : ℕ) (i : index < 128) where
-    pub decode-bounded : (code : List ℤ) → Bounded (decode bytes v index code .history)
+    pub decode-bounded : (code : List ℤ) → Bounded (decode bytes v index code .gains)
     unfolding decode
     decode-bounded code = step-bounded v b (energy code) (pitchGain bytes index) (logGain bytes index) (gainBias bytes) (log-gain-within s index i)
 

@@ -128,7 +128,7 @@ module _ (v : List Float) (b : Bounded v) where
       within-finite (2 ^ 23) (s .value) (s .bound)
 
   -- the next history obeys the state rule too
-  pub step-bounded : (e pitch correction bias : Float) → T (within 65536 correction) → Bounded (step v e pitch correction bias .history)
+  pub step-bounded : (e pitch correction bias : Float) → T (within 65536 correction) → Bounded (step v e pitch correction bias .gains)
   unfolding step
   step-bounded e pitch correction bias q zero h = →within 131072 correction (wider 65536 131072 correction (lit≤ tt) (within→ 65536 correction q))
   step-bounded e pitch correction bias q (suc zero) h = b 0 (lit< tt)
@@ -146,10 +146,10 @@ code-gain-le Argument.Below = lit≤ tt
 code-gain-le Argument.Above = le-refl 32767
 code-gain-le (Argument.Within x) = quantise-le 32767 (exp x)
 
-pub step-gains : (v : List Float) (e pitch correction bias : Float) → InRange (step v e pitch correction bias .pitch) × InRange (step v e pitch correction bias .code)
+pub step-gains : (v : List Float) (e pitch correction bias : Float) → InRange (step v e pitch correction bias .«pitch_gain») × InRange (step v e pitch correction bias .«code_gain»)
 unfolding step
 step-gains v e pitch correction bias = ((quantise 32767 pitch, quantise-le 32767 pitch, refl), (codeGain (argument (add (prediction v e bias) correction)), code-gain-le (argument (add (prediction v e bias) correction)), refl))
 
-pub decode-gains : (bytes : List ℕ) (v : List Float) (index : ℕ) (code : List ℤ) → InRange (decode bytes v index code .pitch) × InRange (decode bytes v index code .code)
+pub decode-gains : (bytes : List ℕ) (v : List Float) (index : ℕ) (code : List ℤ) → InRange (decode bytes v index code .«pitch_gain») × InRange (decode bytes v index code .«code_gain»)
 unfolding decode
 decode-gains bytes v index code = step-gains v (energy code) (pitchGain bytes index) (logGain bytes index) (gainBias bytes)

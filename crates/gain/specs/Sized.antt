@@ -8,7 +8,7 @@ use lib.IntN.{pos}
 use lib.Dec.{T, leb, ltb, leb→le, ltb→lt, lit<}
 use lib.Pow.{pow-pos, pow-mono, pow-lt, pow-add}
 use borrow.Author.Tests.{ne-eqb}
-use lib.Ieee.{Float, nan, inf, fin, binary32, up, down, odd, neg, ofFields, ofBits, ofInt}
+use lib.Ieee.{Float, nan, inf, fin, binary32, down, odd, neg, ofFields, ofBits, ofInt}
 use lib.Ieee as Ieee
 use lib.Ieee.Exact.{HasValue, odd-sign, round-exact}
 use lib.Ieee.Fits.{and-l, and-r}
@@ -57,19 +57,19 @@ pub record Sized (B : ℕ) : Type 0 where
   pub value : Float
   pub bound : Within B value
 
--- n fits below 2 ^ k, and that is an f32
-abbrev pub fits : ℕ → ℕ → Bool
-fits k n = ltb k 128 && leb n (2 ^ k)
+-- 2 ^ k is an f32, and n is at most that
+abbrev pub covers : ℕ → ℕ → Bool
+covers k n = ltb k 128 && leb n (2 ^ k)
 
-pub fits-held : (k n : ℕ) → T (fits k n) → Held binary32 (2 ^ k)
-fits-held k n h = held-power k (ltb→lt k 128 (and-l (ltb k 128) (leb n (2 ^ k)) h))
+pub covers-held : (k n : ℕ) → T (covers k n) → Held binary32 (2 ^ k)
+covers-held k n h = held-power k (ltb→lt k 128 (and-l (ltb k 128) (leb n (2 ^ k)) h))
 
-pub fits-le : (k n : ℕ) → T (fits k n) → n ≤ 2 ^ k
-fits-le k n h = leb→le n (2 ^ k) (and-r (ltb k 128) (leb n (2 ^ k)) h)
+pub covers-le : (k n : ℕ) → T (covers k n) → n ≤ 2 ^ k
+covers-le k n h = leb→le n (2 ^ k) (and-r (ltb k 128) (leb n (2 ^ k)) h)
 
-pub sub-within : (a b k : ℕ) (x y : Float) → T (fits k (a + b)) → Within a x → Within b y → Within (2 ^ k) (sub x y)
+pub sub-within : (a b k : ℕ) (x y : Float) → T (covers k (a + b)) → Within a x → Within b y → Within (2 ^ k) (sub x y)
 unfolding Ieee.sub
-sub-within a b k x y h p q = add-within binary32 x (neg y) a b (2 ^ k) (fits-held k (a + b) h) (fits-le k (a + b) h) p (neg-within b y q)
+sub-within a b k x y h p q = add-within binary32 x (neg y) a b (2 ^ k) (covers-held k (a + b) h) (covers-le k (a + b) h) p (neg-within b y q)
 
 pub whole-within : (k n : ℕ) → k < 128 → n ≤ 2 ^ k → Within (2 ^ k) (ofInt binary32 (pos n))
 unfolding ofInt
@@ -86,17 +86,17 @@ abbrev pub small : (n : ℕ) → T (ltb n 0x4000_0000) → Sized 2
 small n h = pattern 0 n tt (ltb→lt n 0x4000_0000 h)
 
 module _ {a b : ℕ} (k : ℕ) where
-  abbrev pub plus : T (fits k (a + b)) → Sized a → Sized b → Sized (2 ^ k)
+  abbrev pub plus : T (covers k (a + b)) → Sized a → Sized b → Sized (2 ^ k)
   plus h x y = record {
     value = add (x .value) (y .value);
-    bound = add-within binary32 (x .value) (y .value) a b (2 ^ k) (fits-held k (a + b) h) (fits-le k (a + b) h) (x .bound) (y .bound);
+    bound = add-within binary32 (x .value) (y .value) a b (2 ^ k) (covers-held k (a + b) h) (covers-le k (a + b) h) (x .bound) (y .bound);
   }
 
-  abbrev pub minus : T (fits k (a + b)) → Sized a → Sized b → Sized (2 ^ k)
+  abbrev pub minus : T (covers k (a + b)) → Sized a → Sized b → Sized (2 ^ k)
   minus h x y = record { value = sub (x .value) (y .value); bound = sub-within a b k (x .value) (y .value) h (x .bound) (y .bound) }
 
-  abbrev pub times : T (fits k (a * b)) → Sized a → Sized b → Sized (2 ^ k)
+  abbrev pub times : T (covers k (a * b)) → Sized a → Sized b → Sized (2 ^ k)
   times h x y = record {
     value = mul (x .value) (y .value);
-    bound = mul-within binary32 (x .value) (y .value) a b (2 ^ k) (fits-held k (a * b) h) (fits-le k (a * b) h) (x .bound) (y .bound);
+    bound = mul-within binary32 (x .value) (y .value) a b (2 ^ k) (covers-held k (a * b) h) (covers-le k (a * b) h) (x .bound) (y .bound);
   }

@@ -7,6 +7,7 @@ ghost use lib.IntN.{pos};
 ghost use lib.ListN.{length};
 ghost use lib.Ieee.{isNan};
 ghost use lib.Ieee.Scale.{finite};
+ghost use Rattle.tables.specs.Places.{BYTES};
 ghost use Rattle.gain.specs.Elementary as Elementary;
 ghost use Rattle.gain.specs.Gain as Gain;
 ghost use Rattle.gain.specs.Ranges.{Carried};
@@ -20,9 +21,9 @@ pub enum CodeGainArgument {
 
 // The gains of a subframe, and the history that the next one starts from.
 pub struct Decoded {
-    pub pitch: i16,
-    pub code: i16,
-    pub history: [f32; 4],
+    pub pitch_gain: i16,
+    pub code_gain: i16,
+    pub gains: [f32; 4],
 }
 
 // The natural logarithm, for an x from 1 to 2^30. docs/ELEMENTARY.md has the constants.
@@ -101,10 +102,10 @@ fn weighted(v: [f32; 4]) -> f32
     ((v[0] * 0.68 + v[1] * 0.5) + v[2] * 0.33) + v[3] * 0.16
 }
 
-fn prediction(history: [f32; 4], e: f32, bias: f32) -> f32
-    ensures { λ r. ⌜ r ≡ Gain.prediction history e bias ⌝ }
+fn prediction(gains: [f32; 4], e: f32, bias: f32) -> f32
+    ensures { λ r. ⌜ r ≡ Gain.prediction gains e bias ⌝ }
 {
-    weighted(history) - 0.5 * ln(at_least_one(e)) + bias
+    weighted(gains) - 0.5 * ln(at_least_one(e)) + bias
 }
 
 fn argument(x: f32) -> CodeGainArgument
@@ -133,47 +134,47 @@ fn code_gain(a: CodeGainArgument) -> i16
 }
 
 // The gains of a subframe whose code has the energy e, and the history after it.
-fn step(history: [f32; 4], e: f32, pitch: f32, correction: f32, bias: f32) -> Decoded
-    ensures { λ r. ⌜ r ≡ Gain.step history e pitch correction bias ⌝ }
+fn step(gains: [f32; 4], e: f32, pitch_gain: f32, correction: f32, bias: f32) -> Decoded
+    ensures { λ r. ⌜ r ≡ Gain.step gains e «pitch_gain» correction bias ⌝ }
 {
-    let x = prediction(history, e, bias) + correction;
-    let gain = code_gain(argument(x));
-    let pitch_gain = floats::quantise(pitch, 32767);
-    let shifted = [correction, history[0], history[1], history[2]];
+    let x = prediction(gains, e, bias) + correction;
+    let code = code_gain(argument(x));
+    let pitch = floats::quantise(pitch_gain, 32767);
+    let shifted = [correction, gains[0], gains[1], gains[2]];
     Decoded {
-        pitch: pitch_gain,
-        code: gain,
-        history: shifted,
+        pitch_gain: pitch,
+        code_gain: code,
+        gains: shifted,
     }
 }
 
 // The gains of a subframe, by its gain index and its code, and the history after it.
-pub fn decode(bytes: &[u8], history: [f32; 4], index: usize, code: &[i16; 80]) -> Decoded
-    requires { ⌜ length (now bytes) ≡ 3908 ⌝ ∗ ⌜ index < 128 ⌝ }
-    ensures { λ r. ⌜ r ≡ Gain.decode (now (bytes .entry)) history index (now (code .entry)) ⌝ }
+pub fn decode(bytes: &[u8], gains: [f32; 4], index: usize, code: &[i16; 80]) -> Decoded
+    requires { ⌜ length (now bytes) ≡ BYTES ⌝ ∗ ⌜ index < 128 ⌝ }
+    ensures { λ r. ⌜ r ≡ Gain.decode (now (bytes .entry)) gains index (now (code .entry)) ⌝ }
 {
-    let pitch = tables::pitch_gain(bytes, index);
+    let pitch_gain = tables::pitch_gain(bytes, index);
     let correction = tables::log_gain(bytes, index);
     step(
-        history,
+        gains,
         energy(code),
-        pitch,
+        pitch_gain,
         correction,
         tables::gain_bias(bytes),
     )
 }
 
 // The figure that mod.rs reports: the prediction without the energy's term, plus bias and correction.
-pub fn amplitude(bytes: &[u8], history: [f32; 4], index: usize) -> f32
-    requires { ⌜ length (now bytes) ≡ 3908 ⌝ ∗ ⌜ index < 128 ⌝ }
-    ensures { λ r. ⌜ r ≡ Gain.amplitude (now (bytes .entry)) history index ⌝ }
+pub fn amplitude(bytes: &[u8], gains: [f32; 4], index: usize) -> f32
+    requires { ⌜ length (now bytes) ≡ BYTES ⌝ ∗ ⌜ index < 128 ⌝ }
+    ensures { λ r. ⌜ r ≡ Gain.amplitude (now (bytes .entry)) gains index ⌝ }
 {
-    weighted(history) + tables::gain_bias(bytes) + tables::log_gain(bytes, index)
+    weighted(gains) + tables::gain_bias(bytes) + tables::log_gain(bytes, index)
 }
 
 // The mean of the 128 log gains, summed in order.
 fn mean(bytes: &[u8]) -> f32
-    requires { ⌜ length (now bytes) ≡ 3908 ⌝ }
+    requires { ⌜ length (now bytes) ≡ BYTES ⌝ }
     ensures { λ r. ⌜ r ≡ Gain.mean (now (bytes .entry)) ⌝ }
 {
     let mut t = 0.0f32;
@@ -187,7 +188,7 @@ fn mean(bytes: &[u8]) -> f32
 
 // The history at reset: four times that mean.
 pub fn initial_history(bytes: &[u8]) -> [f32; 4]
-    requires { ⌜ length (now bytes) ≡ 3908 ⌝ }
+    requires { ⌜ length (now bytes) ≡ BYTES ⌝ }
     ensures { λ r. ⌜ r ≡ Gain.initialHistory (now (bytes .entry)) ⌝ }
 {
     let m = mean(bytes);

@@ -6,6 +6,7 @@ ghost use lib.Dec.{T};
 ghost use lib.ListN.{length};
 ghost use lib.Ieee.{isNan};
 ghost use lib.Ieee.Scale.{finite};
+ghost use Rattle.tables.specs.Places.{BYTES};
 ghost use Rattle.gain.specs.Elementary as Elementary;
 ghost use Rattle.gain.specs.Gain as Gain;
 
@@ -27,24 +28,24 @@ pub extern "C" fn gain_exp(x: f32) -> f32
     gain::exp(x)
 }
 
-// A gain step: the history is lent and changed, the pitch gain is written, the code gain returned.
+// A gain step: the gain history is lent and changed, the pitch gain is written, the code gain returned.
 #[no_mangle]
 pub extern "C" fn gain_decode(
     bytes: &[u8],
-    history: &mut [f32; 4],
+    gains: &mut [f32; 4],
     index: usize,
     code: &[i16; 80],
-    pitch: &mut i16,
+    pitch_gain: &mut i16,
 ) -> i16
-    requires { ⌜ length (now bytes) ≡ 3908 ⌝ ∗ ⌜ index < 128 ⌝ }
-    ensures code { λ r. ⌜ r ≡ Gain.decode (now (bytes .entry)) (now (history .entry)) index (now (code .entry)) .code ⌝ }
-    ensures pitch { λ _. ⌜ now (pitch .exit) ≡ Gain.decode (now (bytes .entry)) (now (history .entry)) index (now (code .entry)) .pitch ⌝ }
-    ensures history { λ _. ⌜ now (history .exit) ≡ Gain.decode (now (bytes .entry)) (now (history .entry)) index (now (code .entry)) .history ⌝ }
+    requires { ⌜ length (now bytes) ≡ BYTES ⌝ ∗ ⌜ index < 128 ⌝ }
+    ensures code_gain { λ r. ⌜ r ≡ Gain.decode (now (bytes .entry)) (now (gains .entry)) index (now (code .entry)) .«code_gain» ⌝ }
+    ensures pitch_gain { λ _. ⌜ now («pitch_gain» .exit) ≡ Gain.decode (now (bytes .entry)) (now (gains .entry)) index (now (code .entry)) .«pitch_gain» ⌝ }
+    ensures gains { λ _. ⌜ now (gains .exit) ≡ Gain.decode (now (bytes .entry)) (now (gains .entry)) index (now (code .entry)) .gains ⌝ }
 {
-    let d = gain::decode(bytes, *history, index, code);
-    let next = d.history;
-    *history = next;
-    let p = d.pitch;
-    *pitch = p;
-    d.code
+    let d = gain::decode(bytes, *gains, index, code);
+    let next = d.gains;
+    *gains = next;
+    let p = d.pitch_gain;
+    *pitch_gain = p;
+    d.code_gain
 }

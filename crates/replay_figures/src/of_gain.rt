@@ -33,8 +33,8 @@ fn decoded(bytes: &[u8], n: [i64; 128]) -> Decoded
 }
 
 fn say_decoded(d: Decoded) {
-    let after = d.history;
-    say_numbers(&[wide_word(d.pitch), wide_word(d.code)]);
+    let after = d.gains;
+    say_numbers(&[wide_word(d.pitch_gain), wide_word(d.code_gain)]);
     io::write_all(STDOUT_FILENO, b" ");
     say_floats(&after);
 }

@@ -1,6 +1,5 @@
 -- The number is told by the rule's test; the state is the same either way.
 use borrow.Author.Needs.{needs}
-use mathlib.Core.Path.{sym, _∙_}
 use Rattle.celp.specs.State.{missedFrame}
 use Rattle.celp.proofs.missed_frame.Statement.{statement}
 use Rattle.celp.proofs.missed_frame.Tie as tie

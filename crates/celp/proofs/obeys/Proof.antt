@@ -1,7 +1,6 @@
 -- The three tests are those of the definition, in its order.
 use borrow.Author.Needs.{needs}
 use borrow.Author.Tests.{not-true, not-false}
-use mathlib.Core.Path.{sym, _∙_}
 use Rattle.celp.specs.State.{obeys}
 use Rattle.celp.proofs.obeys.Statement.{statement}
 use Rattle.celp.proofs.obeys.Tie as tie

@@ -1,10 +1,8 @@
 -- By the set's refusal number.
 use borrow.Author.Needs.{needs}
-use mathlib.Core.Path.{sym, ap, _∙_}
+use mathlib.Core.Path.{sym, _∙_}
 use Rattle.tables.specs.Rules.{accepted-only}
 use Rattle.celp.specs.Cases.{started-refused, started-accepted}
-use Rattle.celp.specs.declared.State.{State}
-use Rattle.celp.specs.declared.Returned.{Returned}
 use Rattle.celp.proofs.started.Statement.{statement}
 use Rattle.celp.proofs.started.Tie as tie
 

@@ -19,7 +19,7 @@ use Rattle.core.proofs.decode_subframe.Tie as tie
 
 module _ (words : List ℤ) (bytes : List ℕ) (exc : List ℤ) (start : ℕ) (p : SubframeParams) (sharpenFixed lastHalfLag : ℤ) (gains : List Float) where
   module _ (i : Innovation) (g : Decoded) (e s : List ℤ) (t : Subframe) where
-    module _ (i-is : i ≡ Spec.innovation words p sharpenFixed lastHalfLag) (g-is : g ≡ Gain.decode bytes gains (p .«gain_index») (i .code)) (e-is : e ≡ Spec.excited words exc start (p .lag) (g .pitch) (g .code) (i .code)) where
+    module _ (i-is : i ≡ Spec.innovation words p sharpenFixed lastHalfLag) (g-is : g ≡ Gain.decode bytes gains (p .«gain_index») (i .code)) (e-is : e ≡ Spec.excited words exc start (p .lag) (g .«pitch_gain») (g .«code_gain») (i .code)) where
       whole : s ≡ Spec.part e start → t ≡ Spec.traced p gains i g s → t ≡ Spec.decodeSubframe words bytes exc start p sharpenFixed lastHalfLag gains
       unfolding Spec.decodeSubframe
       whole s-is t-is = t-is ∙ simp (s-is, e-is, g-is, i-is)
@@ -58,7 +58,7 @@ returns c =
     let i = k .innovation .result in
     let g = d .decode .result in
     let i-is : i ≡ Spec.innovation words p (s .args .sharpen-fixed) (s .args .last-half-lag) = simp (toZ-ofZ w16 _ (s .fits .sharpen-fixed), toZ-ofZ w16 _ (s .fits .last-half-lag)) at (k .innovation .ensures) in
-    let e-is : x .excite .last .1 .0 ≡ Spec.excited words (s .args .exc .now) (s .args .start) (p .lag) (g .pitch) (g .code) (i .code) = simp (back w16 (g .pitch) (q .struct-told .given .0 .1), back w16 (g .code) (x .before .struct-told2 .given .1 .0 .1)) at (x .excite .ensures) in (
+    let e-is : x .excite .last .1 .0 ≡ Spec.excited words (s .args .exc .now) (s .args .start) (p .lag) (g .«pitch_gain») (g .«code_gain») (i .code) = simp (back w16 (g .«pitch_gain») (q .struct-told .given .0 .1), back w16 (g .«code_gain») (x .before .struct-told2 .given .1 .0 .1)) at (x .excite .ensures) in (
       whole words (s .args .bytes .now) (s .args .exc .now) (s .args .start) p (s .args .sharpen-fixed) (s .args .last-half-lag) (s .args .gains) i g (x .excite .last .1 .0) (c .before .part .result) (c .traced .result) i-is (d .decode .ensures) e-is (c .before .part .ensures) (c .traced .ensures),
       roomed words (s .args .bytes .now) (s .args .exc .now) (s .args .start) p (s .args .sharpen-fixed) (s .args .last-half-lag) (s .args .gains) i g (x .excite .last .1 .0) (c .before .part .result) (c .traced .result) i-is (d .decode .ensures) e-is (c .traced .ensures),
     )

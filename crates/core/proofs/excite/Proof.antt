@@ -23,8 +23,8 @@ unfolding Spec.excited
 returns c =
     let p = c .before .before .before .before in
     let s = p .before .before in
-    simp (toZ-ofZ w16 _ (s .fits .pitch), toZ-ofZ w16 _ (s .fits .code)) at (c .before .mix .ensures)
-    ∙ ap (λ (l : List ℤ). Spec.mix (s .args .pitch) (s .args .code) (s .args .innovation .now) (s .args .start) l) (p .predict .ensures)
+    simp (toZ-ofZ w16 _ (s .fits .pitch-gain), toZ-ofZ w16 _ (s .fits .code-gain)) at (c .before .mix .ensures)
+    ∙ ap (λ (l : List ℤ). Spec.mix (s .args .pitch-gain) (s .args .code-gain) (s .args .innovation .now) (s .args .start) l) (p .predict .ensures)
 
 pub excite-spec : {M : Type 1} → statement M
 excite-spec = tie.close (tie.spec predict-requires mix-requires same-length returns)

@@ -15,11 +15,11 @@ use Rattle.core.proofs.mix.Statement.{statement}
 use Rattle.core.proofs.mix.Tie as tie
 
 abbrev Inv-loop : tie.InvT-loop
-Inv-loop pitch code innovation start exc₀ n₀ exc n =
-    (n ≤ 80) × (length exc ≡ length exc₀) × (exc ≡ rewritten (Spec.mixedAt (toZ w16 pitch) (toZ w16 code) innovation start) start exc₀ n)
+Inv-loop pitchGain codeGain innovation start exc₀ n₀ exc n =
+    (n ≤ 80) × (length exc ≡ length exc₀) × (exc ≡ rewritten (Spec.mixedAt (toZ w16 pitchGain) (toZ w16 codeGain) innovation start) start exc₀ n)
 
 abbrev μ-loop : tie.MeasureT-loop
-μ-loop pitch code innovation start exc₀ n₀ exc n = 80 - n
+μ-loop pitchGain codeGain innovation start exc₀ n₀ exc n = 80 - n
 
 loop-holds : tie.Need-loop-holds Inv-loop μ-loop
 unfolding rewritten
@@ -62,7 +62,7 @@ loop-again c =
     let x = getD (l .loop .exc) (s .args .start + l .loop .n) (pos 0) in
     let v = getD (s .args .innovation .now) (l .loop .n) (pos 0) in
     let y : ℤ = toZ w16 (ofZ w16 (c .mixed .result)) in
-    let e : y ≡ Spec.mixed (toZ w16 (ofZ w16 (s .args .pitch))) (toZ w16 (ofZ w16 (s .args .code))) x v =
+    let e : y ≡ Spec.mixed (toZ w16 (ofZ w16 (s .args .pitch-gain))) (toZ w16 (ofZ w16 (s .args .code-gain))) x v =
     back w16 (c .mixed .result) (c .mixed .ok) ∙ simp (back w16 x (c .before .before .mixed-arg .given), back w16 v (c .before .mixed-arg2 .given)) at (c .mixed .ensures) in
     (omega arith, length-set (l .loop .exc) (s .args .start + l .loop .n) y ∙ l .loop .inv .1, rewritten-again _ (s .args .start) (s .args .exc .now) (l .loop .n) (l .loop .exc) y (l .loop .inv .2) e)
 
@@ -74,7 +74,7 @@ unfolding Spec.mix
 returns c =
     let s = c .before .before in
     rewritten-end _ (s .args .start) (s .args .exc .now) (c .before .loop .inv .0) (omega arith) (c .before .loop .inv .2)
-    ∙ simp (toZ-ofZ w16 _ (s .fits .pitch), toZ-ofZ w16 _ (s .fits .code))
+    ∙ simp (toZ-ofZ w16 _ (s .fits .pitch-gain), toZ-ofZ w16 _ (s .fits .code-gain))
 
 pub mix-spec : {M : Type 1} → statement M
 mix-spec =

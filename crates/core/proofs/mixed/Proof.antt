@@ -23,13 +23,13 @@ fold-requires : tie.Need-fold-requires
 fold-requires c κs = search needs
 
 -- the sum of the two products
-sum-is : (c : tie.After-fold) → let s = c .before .before .before .before in c .fold .result ≡ Fixed.fold (Fixed.mul (s .args .a) (s .args .pitch)) (Fixed.shift (Fixed.mul (s .args .c) (s .args .code)) (pos 1))
+sum-is : (c : tie.After-fold) → let s = c .before .before .before .before in c .fold .result ≡ Fixed.fold (Fixed.mul (s .args .a) (s .args .pitch-gain)) (Fixed.shift (Fixed.mul (s .args .c) (s .args .code-gain)) (pos 1))
 sum-is c =
     let s = c .before .before .before .before in
     let m = c .before .before .before .mul in
     let n = c .before .before .mul2 in
     let h = c .before .shift in
-    cc (toZ-ofZ w16 _ (s .fits .a), toZ-ofZ w16 _ (s .fits .pitch), toZ-ofZ w16 _ (s .fits .c), toZ-ofZ w16 _ (s .fits .code), back w64 (m .result) (m .ok), back w64 (n .result) (n .ok), back w64 (h .result) (h .ok))
+    cc (toZ-ofZ w16 _ (s .fits .a), toZ-ofZ w16 _ (s .fits .pitch-gain), toZ-ofZ w16 _ (s .fits .c), toZ-ofZ w16 _ (s .fits .code-gain), back w64 (m .result) (m .ok), back w64 (n .result) (n .ok), back w64 (h .result) (h .ok))
 
 shift-requires-2 : tie.Need-shift-requires-2
 shift-requires-2 c κs = search needs

@@ -17,9 +17,9 @@ returns c =
     let a = c .before .before in
     let s = a .before .before .before .before .before in
     let g = s .args .g in
-    let p = back w16 (g .pitch) (a .struct-told .given .0 .1) in
-    let k : toZ w16 (ofZ w16 (c .clamped .result)) ≡ Spec.clamped (g .pitch) = back w16 (c .clamped .result) (c .clamped .ok) ∙ simp p at (c .clamped .ensures) in
-    simp (p, back w16 (g .code) (a .struct-told .given .1 .0 .1), k)
+    let p = back w16 (g .«pitch_gain») (a .struct-told .given .0 .1) in
+    let k : toZ w16 (ofZ w16 (c .clamped .result)) ≡ Spec.clamped (g .«pitch_gain») = back w16 (c .clamped .result) (c .clamped .ok) ∙ simp p at (c .clamped .ensures) in
+    simp (p, back w16 (g .«code_gain») (a .struct-told .given .1 .0 .1), k)
 
 pub traced-spec : {M : Type 1} → statement M
 traced-spec = tie.close (tie.spec clamped-requires returns)

@@ -59,8 +59,8 @@ unfolding figures
 returns c =
     let b = c .before .before .before .before .before .before .before .before in
     let t = b .before .before .before .before .before .before .before .before .args .t in
-    let code = toZ-ofZ {w = w16} {z = t .code} (sfits-of (c .before .before .before .before .before .struct-told .given .1 .1 .1 .1 .0 .1)) in
-    let pitch = toZ-ofZ {w = w16} {z = t .pitch} (sfits-of (c .before .before .before .struct-told2 .given .1 .1 .1 .0 .1)) in
+    let code = toZ-ofZ {w = w16} {z = t .«code_gain»} (sfits-of (c .before .before .before .before .before .struct-told .given .1 .1 .1 .1 .0 .1)) in
+    let pitch = toZ-ofZ {w = w16} {z = t .«pitch_gain»} (sfits-of (c .before .before .before .struct-told2 .given .1 .1 .1 .0 .1)) in
     let lag = toZ-ofZ {w = w16} {z = t .lag .integer} (sfits-of (c .before .struct-told3 .given .0 .1)) in
     rw (b .before .before .before .log-gain .ensures, b .before .before .amplitude .ensures, b .energy .ensures, code, pitch, lag)
 

@@ -1,7 +1,7 @@
 -- Each half has its part of the samples, and the second starts from what the first leaves.
 use borrow.Author.Needs.{needs}
 use denote.Ref.{now}
-use mathlib.Core.Path.{sym, ap, _∙_}
+use mathlib.Core.Path.{sym, _∙_}
 use Rattle.sequence.specs.All.{and-left, and-right}
 use Rattle.frame.specs.Frame.{halfFits, digitsFit, halves, samples}
 use Rattle.frame.proofs.Parts.{first-part, second-part, both-parts}

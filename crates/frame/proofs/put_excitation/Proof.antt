@@ -1,6 +1,6 @@
 -- The two halves, one after the other.
 use borrow.Author.Needs.{needs}
-use mathlib.Core.Path.{sym, ap, _∙_}
+use mathlib.Core.Path.{sym, _∙_}
 use Rattle.frame.specs.Frame.{excitation}
 use Rattle.frame.proofs.Parts.{first-part, both-parts}
 use Rattle.frame.proofs.put_excitation.Statement.{statement}

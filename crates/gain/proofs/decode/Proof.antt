@@ -25,7 +25,7 @@ unfolding decode
 returns c =
     let b = c .before .before .before in
     c .step .ensures
-    ∙ (λ i. step (b .before .before .before .args .history) (c .before .before .energy .ensures i) (b .before .pitch-gain .ensures i) (b .log-gain .ensures i) (c .before .gain-bias .ensures i))
+    ∙ (λ i. step (b .before .before .before .args .gains) (c .before .before .energy .ensures i) (b .before .pitch-gain .ensures i) (b .log-gain .ensures i) (c .before .gain-bias .ensures i))
 
 pub decode-spec : {M : Type 1} → statement M
 decode-spec =

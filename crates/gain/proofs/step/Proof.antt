@@ -15,8 +15,8 @@ use Rattle.gain.proofs.step.Statement.{statement}
 use Rattle.gain.proofs.step.Tie as tie
 
 -- two answers of equal parts
-same : (p q a b : ℤ) (h : List Float) → p ≡ q → a ≡ b → _≡_ {A = Decoded} (record { pitch = p; code = a; history = h }) (record { pitch = q; code = b; history = h })
-same p q a b h e f = λ i. record { pitch = e i; code = f i; history = h }
+same : (p q a b : ℤ) (h : List Float) → p ≡ q → a ≡ b → _≡_ {A = Decoded} (record { «pitch_gain» = p; «code_gain» = a; gains = h }) (record { «pitch_gain» = q; «code_gain» = b; gains = h })
+same p q a b h e f = λ i. record { «pitch_gain» = e i; «code_gain» = f i; gains = h }
 
 prediction-requires : tie.Need-prediction-requires
 prediction-requires c κs = search needs

@@ -27,11 +27,11 @@ returns : tie.Need-returns
 returns c =
     let r = c .before .before .before .decode in
     let a = c .before .before .before .before .before .before .args in
-    let g = decode-gains (now (a .bytes)) (now (a .history)) (a .index) (now (a .code)) in (
-      read (r .result .code) (decode (now (a .bytes)) (now (a .history)) (a .index) (now (a .code)) .code) (ap (λ (d : Decoded). d .code) (r .ensures)) (g .1),
+    let g = decode-gains (now (a .bytes)) (now (a .gains)) (a .index) (now (a .code)) in (
+      read (r .result .«code_gain») (decode (now (a .bytes)) (now (a .gains)) (a .index) (now (a .code)) .«code_gain») (ap (λ (d : Decoded). d .«code_gain») (r .ensures)) (g .1),
       (
-        read (r .result .pitch) (decode (now (a .bytes)) (now (a .history)) (a .index) (now (a .code)) .pitch) (ap (λ (d : Decoded). d .pitch) (r .ensures)) (g .0),
-        ap (λ (d : Decoded). d .history) (r .ensures),
+        read (r .result .«pitch_gain») (decode (now (a .bytes)) (now (a .gains)) (a .index) (now (a .code)) .«pitch_gain») (ap (λ (d : Decoded). d .«pitch_gain») (r .ensures)) (g .0),
+        ap (λ (d : Decoded). d .gains) (r .ensures),
       ),
     )
 
