@@ -1,22 +1,17 @@
 -- The order of two floats by fractions with one denominator: that of the numerators, with their signs.
-use mathlib.Core.Path.{_≡_, refl, sym, ap, _∙_, subst}
-use mathlib.Core.Logic.{_⊎_, inl, inr}
-use Prim.Native.Nat.{ℕ, zero, suc, _+_, _*_, _/_, _%_, _^_, _≤_, _<_}
-use native.Mathlib.Nat.{add-zero, le-trans, le-of-eq, lt-of-le-of-lt, lt-of-lt-of-le, eq-or-lt-of-le, zero-mul, mul-pos, mul-assoc, mul-comm, mul-left-comm, mul-le-mul-right, mul-lt-mul-of-pos-right, le-of-mul-le-mul-right, lt-of-mul-lt-mul-right}
+use mathlib.Core.Path.{_≡_, refl, sym, ap, _∙_}
+use Prim.Native.Nat.{ℕ, zero, suc, _+_, _*_, _≤_, _<_}
+use native.Mathlib.Nat.{add-zero, le-trans, le-of-eq, lt-of-le-of-lt, lt-of-lt-of-le, zero-mul, mul-pos, mul-assoc, mul-comm, mul-left-comm, mul-le-mul-right, mul-lt-mul-of-pos-right, le-of-mul-le-mul-right, lt-of-mul-lt-mul-right}
 use native.Mathlib.Omega.{arith}
-use mathlib.Core.Bool.{Bool, true, false, not, cond, _&&_, _||_, false≢true}
-use lib.IntN.{ℤ, pos, negsuc, negℤ}
-use lib.Dec.{T, leb, eqb, leb·zero, leb·suc-zero, leb·suc-suc}
-use lib.Pow.{pow-pos}
+use mathlib.Core.Bool.{Bool, true, false, _&&_, _||_}
+use lib.IntN.{ℤ, pos, negℤ}
+use lib.Dec.{leb, eqb, leb·zero, leb·suc-zero, leb·suc-suc}
 use lib.Signed.{leZ}
 use borrow.Author.Tests.{le-leb, lt-leb, leb-true, leb-false, eq-eqb, eqb-true}
-use lib.Ieee.{Float, nan, inf, fin, binary32, up, down, le, lt, eq, fits, isNan, ofBits, ofFields, toBits}
+use lib.Ieee.{Float, nan, inf, fin, up, down, le}
 use lib.Ieee.Fits.{down-pos}
-use lib.Ieee.Bits.{ofBits-toBits, toBits-lt}
 use lib.Ieee.Exact.{HasValue}
-use lib.Ieee.Scale.{finite}
 use Rattle.floats.specs.Order.{or-eq, or-eq', mixed}
-use Rattle.floats.specs.Patterns.{stepsOf, unitsOf, units-up, pattern-value}
 
 abbrev pub signed : Bool → ℕ → ℤ
 signed false a = pos a

@@ -1,21 +1,19 @@
 -- A finite float as a whole number of units of 2 ^ -149. The order of floats is that of these numbers, and two floats that have the same one are equal, or are the two zeros.
 use mathlib.Core.Path.{_≡_, refl, sym, ap, _∙_, subst}
 use mathlib.Core.Logic.{_⊎_, inl, inr}
-use Prim.Native.Nat.{ℕ, zero, suc, _+_, _*_, _/_, _%_, _^_, _≤_, _<_}
-use native.Mathlib.Nat.{add-zero, le-trans, le-of-eq, lt-of-le-of-lt, lt-of-lt-of-le, eq-or-lt-of-le, zero-mul, mul-pos, mul-assoc, mul-comm, mul-left-comm, mul-le-mul-right, mul-lt-mul-of-pos-right, le-of-mul-le-mul-right, lt-of-mul-lt-mul-right}
+use Prim.Native.Nat.{ℕ, zero, suc, _+_, _/_, _%_, _^_, _≤_, _<_}
+use native.Mathlib.Nat.{eq-or-lt-of-le}
 use native.Mathlib.Omega.{arith}
-use mathlib.Core.Bool.{Bool, true, false, not, cond, _&&_, _||_, false≢true}
+use mathlib.Core.Bool.{Bool, true, false, cond}
 use lib.IntN.{ℤ, pos, negsuc, negℤ}
-use lib.Dec.{T, leb, eqb, leb·zero, leb·suc-zero, leb·suc-suc}
+use lib.Dec.{T, leb, eqb}
 use lib.Pow.{pow-pos}
 use lib.Signed.{leZ}
-use borrow.Author.Tests.{le-leb, lt-leb, leb-true, leb-false, eq-eqb, eqb-true}
-use lib.Ieee.{Float, nan, inf, fin, binary32, up, down, le, lt, eq, fits, isNan, ofBits, ofFields, toBits}
-use lib.Ieee.Fits.{down-pos}
+use borrow.Author.Tests.{leb-true, leb-false}
+use lib.Ieee.{Float, nan, inf, fin, binary32, le, fits, ofBits, ofFields, toBits}
 use lib.Ieee.Bits.{ofBits-toBits, toBits-lt}
 use lib.Ieee.Exact.{HasValue}
 use lib.Ieee.Scale.{finite}
-use Rattle.floats.specs.Order.{or-eq, or-eq', mixed}
 use Rattle.floats.specs.Patterns.{stepsOf, unitsOf, units-up, pattern-value}
 use Rattle.floats.specs.Compared.{signed, le-by}
 

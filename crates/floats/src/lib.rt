@@ -1,6 +1,6 @@
 // f32 out of lent bytes, an integer rounded to f32 once, ties to even, and the rule of a bounded float.
 ghost use mathlib.Core.Path.{_≡_};
-ghost use mathlib.Core.Bool.{true, false};
+ghost use mathlib.Core.Bool.{false};
 ghost use Prim.Native.Nat.{_+_, _*_, _≤_, _<_, _^_};
 ghost use lib.IntN.{pos};
 ghost use lib.Dec.{T};

@@ -3,6 +3,5 @@ pub mod Total
 pub mod Table
 pub mod Rewritten
 pub mod Mapped
-pub mod Copied
 pub mod First
 pub mod All

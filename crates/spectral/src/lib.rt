@@ -7,7 +7,6 @@ ghost use lib.Dec.{ltb};
 ghost use lib.Signed.{leZ};
 ghost use lib.ListN.{length, getD, take, drop};
 ghost use lib.Ieee.{nan, lt};
-ghost use Rattle.tables.specs.Tables as Tables;
 ghost use Rattle.spectral.specs.Spectral as Spectral;
 
 // A word of the mean, at place k of a history.

@@ -1,7 +1,7 @@
 // The lent table set: places by name, readers, and the set rules.
 ghost use mathlib.Core.Path.{_≡_};
 ghost use mathlib.Core.Bool.{_||_};
-ghost use Prim.Native.Nat.{_+_, _*_, _≤_, _<_};
+ghost use Prim.Native.Nat.{_+_, _*_, _<_};
 ghost use lib.ListN.{length};
 ghost use Rattle.sequence.specs.First.{first, some};
 ghost use Rattle.tables.specs.Places.{places};
