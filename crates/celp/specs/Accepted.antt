@@ -50,8 +50,7 @@ module _ (words : List ℤ) (bytes : List ℕ) where
       let rules = obeys words bytes (d .0) in
       record {
         set-sound = record {
-          words-long = eqb-true (length words) WORDS (and-left (eqb (length words) WORDS) (eqb (length bytes) BYTES) long);
-          rules = rules;
+          of-words = record { words-long = eqb-true (length words) WORDS (and-left (eqb (length words) WORDS) (eqb (length bytes) BYTES) long); rules = rules .of-words };
           of-bytes = record { bytes-long = eqb-true (length bytes) BYTES (and-right (eqb (length words) WORDS) (eqb (length bytes) BYTES) long); floats-within = rules .floats-within };
         };
         samples-long = eqb-true room 320 (not-false (eqb room 320) (b .0));

@@ -9,6 +9,7 @@ use lib.ListN.{getD}
 use lib.Ieee.{Float, nan, binary32, ofBits, ofInt, isNan}
 use lib.Ieee.Bits.{is-true}
 use Rattle.sequence.specs.All.{all, all-at, all-of}
+use Rattle.sequence.specs.Lists.{Each, each-all}
 use Rattle.floats.specs.Floats.{within}
 use Rattle.floats.specs.Within.{within-is-number}
 use Rattle.floats.specs.NoNan.{round-no-nan, finite-no-nan}
@@ -29,7 +30,6 @@ use Rattle.core.specs.Kept.{indexes-kept, gains-kept}
 use Rattle.frame.specs.declared.Subframe.{Subframe}
 use Rattle.frame.specs.Frame as Frame
 use Rattle.spectral.specs.Kept.{Words16}
-use Rattle.spectral.specs.Lists.{Each}
 use Rattle.celp.specs.declared.State.{State}
 use Rattle.celp.specs.declared.Answer.{Answer}
 use Rattle.celp.specs.Celp.{refusal, silent, refused, carried, decoded, accepted, answer, decode}
@@ -49,10 +49,6 @@ int-number : (z : ℤ) → T (number (ofInt binary32 z))
 unfolding ofInt
 int-number (pos n) = round-no-nan binary32 false n 1
 int-number (negsuc n) = round-no-nan binary32 true (suc n) 1
-
-all-each : (l : List Float) → Each number l → all number l ≡ true
-all-each [] h = refl
-all-each (x ∷ l) h = ap (λ (b : Bool). b && all number l) (is-true (number x) (h .0)) ∙ all-each l (h .1)
 
 module _ (words : List ℤ) (bytes : List ℕ) (s : SoundBytes bytes) where
   -- a subframe's figures, by its gain index and its history
@@ -89,7 +85,7 @@ module _ (words : List ℤ) (bytes : List ℕ) (s : SoundBytes bytes) where
 
   reported-numbers : (t : SubframeTrace) → t .«gain_index» < 128 → Bounded (t .gains) → numbers (Frame.reported bytes t) ≡ true
   unfolding Frame.reported
-  reported-numbers t i b = all-each (Frame.figures bytes t) (each-number t i b)
+  reported-numbers t i b = each-all number (Frame.figures bytes t) (each-number t i b)
 
   -- those of both subframes of a half
   module _ (core : Core) (lsp : List ℤ) (p : HalfParams) (b : Bounded (core .gains)) where

@@ -9,8 +9,9 @@ use Rattle.bits.specs.declared.HalfParams.{HalfParams}
 use Rattle.bits.specs.Bits.{fieldsOf}
 use Rattle.bits.specs.Widths.{InWidths, within-names, fields-within}
 use Rattle.spectral.specs.Spectral as Spectral
-use Rattle.spectral.specs.Kept.{Bounded, Words16, residual-kept, length-residual, push-kept}
-use Rattle.spectral.specs.Lists.{Same, Rising}
+use Rattle.floats.specs.Within.{Bounded}
+use Rattle.spectral.specs.Kept.{Words16, residual-kept, length-residual, push-kept}
+use Rattle.sequence.specs.Lists.{Same, Rising}
 use Rattle.spectral.specs.TotalCmp.{totalLe}
 use Rattle.spectral.specs.Predicted.{predict-any}
 use Rattle.core.specs.Figures.{left-lsp}

@@ -77,7 +77,7 @@ fn all_within(floats: &[f32]) -> bool
 {
     let mut i = 0;
     while i < floats.len() {
-        if floats::within(floats[i], 131072) {
+        if floats::within(131072, floats[i]) {
             i += 1;
         } else {
             return false;

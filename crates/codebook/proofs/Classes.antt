@@ -40,5 +40,5 @@ module _ (words : List ℤ) (index : ℕ) where
 
 -- class 0 is always reached
 pub not-lowest : (words : List ℤ) (index k : ℕ) → SoundWords words → index < base words k → 1 ≤ k
-not-lowest words index zero c h = absurd (omega (arith, c .base-zero))
+not-lowest words index zero c h = absurd (omega (arith, c .rules .base-zero))
 not-lowest words index (suc k) c h = omega arith

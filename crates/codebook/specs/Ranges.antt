@@ -19,7 +19,7 @@ use Rattle.sequence.specs.Table.{getD-table}
 use Rattle.tables.specs.Places.{FCB-SHAPE-SEL}
 use Rattle.tables.specs.Tables.{unsignedWord, base, entry}
 use Rattle.codebook.specs.declared.Classified.{Classified}
-use Rattle.tables.specs.SoundWords.{SoundWords, pulses-within}
+use Rattle.tables.specs.SoundWords.{SoundWords, pulses-within, selector-le, entry-size}
 use Rattle.codebook.specs.Codebook.{classOf, cut, classify, pulses, digit, decompose, placeShape, placeSlot, placePosition, placeShapes, placePulse, placeEntry, placePulses, alternative, silence, innovation, decode, slotFits, slotsFit, placeFits, digitsFit}
 
 -- ---- the class
@@ -38,7 +38,7 @@ unfolding classOf
 class-reached words index s =
     let f : ℕ → Bool = λ k. leb (base words (5 - k)) index in
     ⊎-elim
-    (λ (e : first f 6 ≡ 6). rw e (omega (arith, s .base-zero)))
+    (λ (e : first f 6 ≡ 6). rw e (omega (arith, s .rules .base-zero)))
     (λ (l : first f 6 < 6). leb-true _ _ (first-at f 6 l))
     (eq-or-lt-of-le (first-le f 6))
 
@@ -78,7 +78,7 @@ pub position-in-range : (class k : ℕ) (slot : ℤ) → class < 5 → k < 3 →
 position-in-range class k slot h l e = omega (arith, slot-le slot e)
 
 pub shape-in-range : (words : List ℤ) (class k : ℕ) → SoundWords words → class < 5 → k < 3 → unsignedWord words (FCB-SHAPE-SEL + 3 * class) + k < 32
-shape-in-range words class k s h l = omega (arith, s .selector-le class h)
+shape-in-range words class k s h l = omega (arith, selector-le s class h)
 
 -- ---- the whole
 -- in classes 0 to 4, of each pulse: its position is one of 600, its shape one of 32
@@ -110,7 +110,7 @@ module _ (words : List ℤ) (s : SoundWords words) where
       }
 
   entries-read : (c : Classified) → c .class ≡ 5 → c .rest < 65536 → EntriesRead words c
-  entries-read c e h = record { top = e; upper = omega arith; lower = omega arith; places = λ k l. let z = s .entry-size k l in omega arith }
+  entries-read c e h = record { top = e; upper = omega arith; lower = omega arith; places = λ k l. let z = entry-size s k l in omega arith }
 
   pub reads-in-range : (index : ℕ) → index < 65536 → digitsFit words index ≡ true → PulsesRead words (classify words index) ⊎ EntriesRead words (classify words index)
   unfolding digitsFit classify

@@ -12,7 +12,7 @@ use Rattle.bits.specs.Widths.{InWidths}
 use Rattle.bits.specs.GainIndex.{gain-index-lt}
 use Rattle.pitch.specs.Pitch as Pitch
 use Rattle.pitch.specs.Lags.{absolute-sane, relative-sane}
-use Rattle.tables.specs.SoundWords.{SoundWords, sound-words}
+use Rattle.tables.specs.SoundWords.{SoundWords}
 use Rattle.codebook.specs.Codebook as Codebook
 use Rattle.core.specs.declared.SubframeParams.{SubframeParams}
 use Rattle.core.specs.Core.{splitParams}
@@ -36,7 +36,7 @@ module _ {words : List ℤ} {bytes : List ℕ} {p : HalfParams} (a : Accepted wo
   pub first-usable : Usable words bytes (splitParams previous lsp p .first)
   unfolding splitParams
   first-usable = record {
-    sound = sound-words (a .set);
+    sound = a .set .of-words;
     bytes-long = a .set .of-bytes .bytes-long;
     digits = a .digits0;
     index = gain-index-lt p 0;
@@ -46,7 +46,7 @@ module _ {words : List ℤ} {bytes : List ℕ} {p : HalfParams} (a : Accepted wo
   pub second-usable : Usable words bytes (splitParams previous lsp p .second)
   unfolding splitParams
   second-usable = record {
-    sound = sound-words (a .set);
+    sound = a .set .of-words;
     bytes-long = a .set .of-bytes .bytes-long;
     digits = a .digits1;
     index = gain-index-lt p 1;

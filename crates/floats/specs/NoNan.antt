@@ -5,7 +5,7 @@ use native.Mathlib.Omega.{arith}
 use mathlib.Core.Bool.{Bool, Bool·beq, true, false, not, cond, _&&_, false≢true}
 use lib.Dec.{T, ltb, ltb→lt, not-T}
 use lib.Ieee as Ieee
-use lib.Ieee.{Float, nan, inf, fin, Format, binary32, add, sub, neg, mul, le, nanBits, isNan, units, odd, round, sum, unlike}
+use lib.Ieee.{Float, nan, inf, fin, Format, binary32, add, mul, le, nanBits, isNan, units, odd, round, sum, unlike}
 use lib.Ieee.Fits.{round-is}
 use lib.Ieee.Bits.{nanBits-above}
 use lib.Ieee.Scale.{finite}
@@ -61,12 +61,6 @@ add-no-nan f (fin s m e) nan p q = absurd q
 add-no-nan f (fin s m e) (inf t) p q = absurd q
 add-no-nan f (fin s m e) (fin t n d) p q = sum-no-nan f s _ t _ _
 
-pub sub-no-nan : (f : Format) (x y : Float) → T (not (isNan x)) → T (finite y) → T (not (isNan (sub f x y)))
-unfolding sub neg
-sub-no-nan f x nan p q = absurd q
-sub-no-nan f x (inf t) p q = absurd q
-sub-no-nan f x (fin t n d) p q = add-no-nan f x (fin (not t) n d) p tt
-
 -- a finite value is none
 pub finite-no-nan : (x : Float) → T (finite x) → T (not (isNan x))
 unfolding isNan
@@ -84,14 +78,3 @@ above-no-nan (inf s) (fin t n d) h = tt
 above-no-nan (fin s m e) nan h = absurd (false≢true h)
 above-no-nan (fin s m e) (inf t) h = tt
 above-no-nan (fin s m e) (fin t n d) h = tt
-
-pub between-finite : (a b x : Float) → T (finite a) → T (finite b) → le a x ≡ true → le x b ≡ true → T (finite x)
-unfolding le
-between-finite nan b x p q h k = absurd p
-between-finite (inf s) b x p q h k = absurd p
-between-finite (fin s m e) nan x p q h k = absurd q
-between-finite (fin s m e) (inf t) x p q h k = absurd q
-between-finite (fin s m e) (fin t n d) nan p q h k = absurd (false≢true h)
-between-finite (fin s m e) (fin t n d) (inf true) p q h k = absurd (false≢true h)
-between-finite (fin s m e) (fin t n d) (inf false) p q h k = absurd (false≢true k)
-between-finite (fin s m e) (fin t n d) (fin u i j) p q h k = tt

@@ -5,6 +5,8 @@ use Prim.Native.Nat.{ℕ, zero, suc, _+_, _-_, _*_, _^_, _≤_, _<_}
 use native.Mathlib.Nat.{le-trans, le-of-eq, le-of-lt, zero-lt-suc, mul-one, mul-comm, mul-assoc, mul-left-comm, mul-right-comm, mul-le-mul-right, mul-le-mul, le-of-mul-le-mul-right, mul-pos, mul-mul-mul-comm, add-mul}
 use native.Mathlib.Omega.{arith}
 use mathlib.Core.Bool.{Bool, Bool·beq, true, false, not, _&&_, cond, true≢false, _||_}
+use mathlib.Core.List.{List}
+use lib.ListN.{getD}
 use lib.IntN.{ℤ, pos, negsuc}
 use lib.Signed.{mag}
 use lib.Dec.{T, ltb, eqb, ltb→lt, eqb→eq, leb→le, le→leb, lit≤}
@@ -25,6 +27,10 @@ abbrev pub Within : ℕ → Float → Type 0
 Within B nan = ⊥
 Within B (inf s) = ⊥
 Within B (fin s m e) = m * up e ≤ B * down e
+
+-- each of the first n floats of a list is
+abbrev pub Bounded : ℕ → ℕ → List Float → Type 0
+Bounded B n l = (k : ℕ) → k < n → T (within B (getD l k nan))
 
 -- the two say the same
 pub within→ : (B : ℕ) (x : Float) → T (within B x) → Within B x

@@ -42,7 +42,7 @@ pub fn float_at(b: &[u8], at: usize) -> f32
 }
 
 // Whether x is finite and at most `bound` in size. A NaN fails the first comparison.
-pub fn within(x: f32, bound: u32) -> bool
+pub fn within(bound: u32, x: f32) -> bool
     requires { ⌜ bound ≤ 2 ^ 24 ⌝ }
     ensures { λ r. ⌜ r ≡ Floats.within bound x ⌝ }
 {
@@ -84,7 +84,7 @@ fn round_even(x: f32) -> u64
 }
 
 // x rounded, a tie to the even number, and brought to 0..=top. A NaN gives 0.
-pub fn quantise(x: f32, top: u16) -> i16
+pub fn quantise(top: u16, x: f32) -> i16
     requires { ⌜ top ≤ 32767 ⌝ }
     ensures { λ r. ⌜ r ≡ pos (Floats.quantise top x) ⌝ }
 {

@@ -13,7 +13,8 @@ use Rattle.bits.specs.declared.FrameParams.{FrameParams}
 use Rattle.bits.specs.Widths.{InWidths}
 use Rattle.gain.specs.Ranges as Gain
 use Rattle.spectral.specs.Spectral as Spectral
-use Rattle.spectral.specs.Kept.{Bounded, Words16, residual-kept, length-residual, push-kept}
+use Rattle.floats.specs.Within.{Bounded}
+use Rattle.spectral.specs.Kept.{Words16, residual-kept, length-residual, push-kept}
 use Rattle.core.specs.declared.Core.{Core}
 use Rattle.core.specs.Kept.{gains-long, gains-kept}
 use Rattle.frame.specs.Frame.{residual, half, halves, report, decode}

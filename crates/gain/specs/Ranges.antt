@@ -12,6 +12,7 @@ use borrow.Author.Tests.{leb-true}
 use lib.Ieee.{Float, nan, inf, fin, binary32, le, ofBits, toBits, isNan, up, down}
 use lib.Ieee.Scale.{finite}
 use Rattle.floats.specs.Floats.{within, quantise}
+use Rattle.floats.specs.Within as Floats
 use Rattle.floats.specs.Within.{Within, within→, →within, within-finite, wider}
 use Rattle.floats.specs.NoNan.{above-no-nan}
 use Rattle.floats.specs.Order.{or-eq, or-eq'}
@@ -99,7 +100,7 @@ at-least-one-no-nan e = go (le (bits 0x3f80_0000) e) (above-no-nan (bits 0x3f80_
 -- ---- a step from a history that obeys the state rule, with a bias and a correction that obey the set rules
 -- each of the four is finite and at most 131,072 in size
 abbrev pub Bounded : List Float → Type 0
-Bounded v = (k : ℕ) → k < 4 → T (within 131072 (getD v k nan))
+Bounded v = Floats.Bounded 131072 4 v
 
 module _ (v : List Float) (b : Bounded v) where
   abbrev term : (k n : ℕ) → k < 4 → T (ltb n 0x4000_0000) → Sized (2 ^ 18)

@@ -129,7 +129,7 @@ fn code_gain(a: CodeGainArgument) -> i16
     match a {
         CodeGainArgument::Below => 0,
         CodeGainArgument::Above => 32767,
-        CodeGainArgument::Within(x) => floats::quantise(exp(x), 32767),
+        CodeGainArgument::Within(x) => floats::quantise(32767, exp(x)),
     }
 }
 
@@ -139,7 +139,7 @@ fn step(gains: [f32; 4], e: f32, pitch_gain: f32, correction: f32, bias: f32) ->
 {
     let x = prediction(gains, e, bias) + correction;
     let code = code_gain(argument(x));
-    let pitch = floats::quantise(pitch_gain, 32767);
+    let pitch = floats::quantise(32767, pitch_gain);
     let shifted = [correction, gains[0], gains[1], gains[2]];
     Decoded {
         pitch_gain: pitch,

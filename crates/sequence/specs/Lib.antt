@@ -5,3 +5,4 @@ pub mod Rewritten
 pub mod Mapped
 pub mod First
 pub mod All
+pub mod Lists

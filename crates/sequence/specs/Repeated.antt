@@ -16,11 +16,6 @@ module _ {A : Type 0} where
   unfolding repeated
   repeated-none step a = refl
 
-  -- a turn of the loop
-  pub repeated-more : (step : ℕ → A → A) (n : ℕ) (a : A) → repeated step (n + 1) a ≡ step n (repeated step n a)
-  unfolding repeated
-  repeated-more step n a = rw add-one
-
   -- a turn of the loop, of a value that is known to be the steps done so far
   pub repeated-again : (step : ℕ → A → A) (n : ℕ) (a : A) {v w : A} → v ≡ repeated step n a → w ≡ step n v → w ≡ repeated step (n + 1) a
   unfolding repeated

@@ -1,4 +1,3 @@
 mod Insertion
 mod Spacing
-mod Pushed
 mod Largest

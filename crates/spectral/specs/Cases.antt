@@ -8,6 +8,7 @@ use lib.Ieee.{Float, binary32, ofBits, ofInt, toUnsigned, add, mul, lt, le}
 use Rattle.floats.specs.Floats.{bitsAt, quantise}
 use Rattle.sequence.specs.Table.{table}
 use Rattle.sequence.specs.Total.{total}
+use Rattle.tables.specs.Places.{BYTES}
 use Rattle.spectral.specs.Spectral.{sums, sort, spread, predict, quantiseLsf, CEILING}
 
 predict-sums : (history residual : List Float) (bytes : List ℕ) (mode : ℕ) → predict history residual bytes mode ≡ spread (sort lt (sums history residual bytes mode))
@@ -37,7 +38,7 @@ case-7 history residual bytes mode e =
     (p, ap quantiseLsf p ∙ quantised-as-they-are)
 
 -- there is one: coefficients that are all 0
-pub zero-prediction : sums (replicate 30 (float 80)) (replicate 10 (float 8)) (replicate 3908 0) 1 ≡ replicate 10 (float 0)
+pub zero-prediction : sums (replicate 30 (float 80)) (replicate 10 (float 8)) (replicate BYTES 0) 1 ≡ replicate 10 (float 0)
 unfolding sums table bitsAt ofInt ofBits add mul
 zero-prediction = refl
 

@@ -1,6 +1,6 @@
 -- The state rule is kept: a residual, the history at reset and a pushed one hold floats that are finite and within 131,072.
-use mathlib.Core.Path.{_≡_, refl, sym, ap, _∙_, subst}
-use mathlib.Core.List.{List, _++_}
+use mathlib.Core.Path.{_≡_, refl, sym, subst}
+use mathlib.Core.List.{List}
 use Prim.Native.Nat.{ℕ, _+_, _-_, _*_, _%_, _≤_, _<_}
 use native.Mathlib.Omega.{arith}
 use mathlib.Core.Bool.{Bool, true, false, cond}
@@ -8,20 +8,16 @@ use lib.IntN.{ℤ}
 use lib.Signed.{mag}
 use lib.Dec.{T, ltb, lit≤}
 use borrow.Author.Tests.{ltb-true, ltb-false}
-use lib.ListN.{length, getD, take, List·getD-append}
-use lib.Seq.{getD-append-add, getD-take}
+use lib.ListN.{length, getD}
 use lib.Ieee.{Float, nan, binary32, add, ofInt}
 use Rattle.floats.specs.Floats.{within}
-use Rattle.floats.specs.Within.{within→, →within, wider, held, add-within, int-within}
+use Rattle.floats.specs.Within.{Bounded, within→, →within, wider, held, add-within, int-within}
 use Rattle.tables.specs.Places.{LSF-MEAN, LSF-CB1}
 use Rattle.tables.specs.Tables.{word, low, high}
 use Rattle.tables.specs.Sound.{SoundBytes, low-within, high-within}
 use Rattle.sequence.specs.Table.{table, length-table, getD-table}
+use Rattle.spectral.specs.Pushed.{push-at}
 use Rattle.spectral.specs.Spectral.{initialAt, initial, stage2At, residualAt, residual, push}
-
--- each of the first n is finite and at most B in size
-abbrev pub Bounded : ℕ → ℕ → List Float → Type 0
-Bounded B n l = (k : ℕ) → k < n → T (within B (getD l k nan))
 
 -- each word is a 16-bit number
 abbrev pub Words16 : List ℤ → Type 0
@@ -60,14 +56,8 @@ initial-kept words w =
 
 -- ---- a push
 pub push-kept : (history residual : List Float) → length residual ≡ 10 → Bounded 131072 30 history → Bounded 131072 10 residual → Bounded 131072 30 (push history residual)
-unfolding push
-push-kept history residual e p q k h = go (ltb k 10) (ltb-true k 10) (ltb-false k 10)
+push-kept history residual e p q k h = subst (λ (x : Float). T (within 131072 x)) (push-at history residual e k h) (go (ltb k 10) (ltb-true k 10) (ltb-false k 10))
   where
-    go : (b : Bool) → (b ≡ true → k < 10) → (b ≡ false → 10 ≤ k) → T (within 131072 (getD (residual ++ take 20 history) k nan))
-    go true y n = let l = y refl in subst (λ (x : Float). T (within 131072 x)) (sym (List·getD-append residual (take 20 history) nan k (omega arith))) (q k l)
-    go false y n =
-        let l = n refl in
-        let f : length residual + (k - 10) ≡ k = omega arith in
-        subst (λ (x : Float). T (within 131072 x))
-        (sym (ap (λ (i : ℕ). getD (residual ++ take 20 history) i nan) (sym f) ∙ getD-append-add residual (take 20 history) (k - 10) nan ∙ getD-take 20 history (k - 10) nan (omega arith)))
-        (p (k - 10) (omega arith))
+    go : (b : Bool) → (b ≡ true → k < 10) → (b ≡ false → 10 ≤ k) → T (within 131072 (cond b (getD residual k nan) (getD history (k - 10) nan)))
+    go true y n = q k (y refl)
+    go false y n = let l = n refl in p (k - 10) (omega arith)

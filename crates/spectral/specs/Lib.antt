@@ -1,8 +1,8 @@
 pub mod Spectral
-pub mod Lists
 pub mod Sorted
 pub mod Above
 pub mod TotalCmp
+pub mod Pushed
 pub mod Kept
 pub mod Predicted
 pub mod Quantised

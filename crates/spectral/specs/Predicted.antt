@@ -13,15 +13,14 @@ use lib.Ieee.{Float, nan, binary32, fits, add, mul, le, lt, ofBits}
 use lib.Ieee.Fits.{and-i, add-fits}
 use lib.Ieee.Scale.{finite}
 use Rattle.floats.specs.Floats.{within}
-use Rattle.floats.specs.Within.{Within, within→, →within, within-finite, wider, held-scaled, add-within, mul-within}
+use Rattle.floats.specs.Within.{Within, Bounded, within→, →within, within-finite, wider, held-scaled, add-within, mul-within}
 use Rattle.tables.specs.Tables.{ma}
 use Rattle.tables.specs.Sound.{SoundBytes, ma-within}
 use Rattle.sequence.specs.Table.{table, length-table, getD-table}
 use Rattle.spectral.specs.Spectral.{sort, sumAt, sums, smaller, spacedAt, spread, predict, FLOOR, GAP, CEILING}
-use Rattle.spectral.specs.Lists.{Rising, Each, Same, each-table, each-at, same-length}
+use Rattle.sequence.specs.Lists.{Rising, Each, Same, each-table, each-at, same-length}
 use Rattle.spectral.specs.Sorted.{sort-same, sort-each}
 use Rattle.spectral.specs.TotalCmp.{totalLe, totalLess, finite32, any-sort, total-sort}
-use Rattle.spectral.specs.Kept.{Bounded}
 
 -- ---- spacing: each place adds at most 65,536 to what bounds all of them
 module _ (l : List Float) (h : Bounded (524288 * 65536) 10 l) where

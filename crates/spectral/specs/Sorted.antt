@@ -6,7 +6,7 @@ use native.Mathlib.Omega.{arith}
 use mathlib.Core.Bool.{Bool, true, false, cond}
 use lib.Dec.{T}
 use Rattle.spectral.specs.Spectral.{insert, sort}
-use Rattle.spectral.specs.Lists.{Rising, Each, Same, tally}
+use Rattle.sequence.specs.Lists.{Rising, Each, Same, tally}
 
 module _ {A : Type 0} (less : A → A → Bool) where
   -- ---- the same elements

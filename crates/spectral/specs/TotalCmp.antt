@@ -22,7 +22,7 @@ use Rattle.floats.specs.Order.{not-below, below-le}
 use Rattle.sequence.specs.Table.{table, table-same}
 use Rattle.spectral.specs.Spectral.{sort, larger, smaller, spacedAt, spread, FLOOR, GAP, CEILING}
 use Rattle.spectral.specs.Above.{floor-above, larger-above, above-zero, gap-above}
-use Rattle.spectral.specs.Lists.{Rising, Each, Same, each-same, tally-map, settled}
+use Rattle.sequence.specs.Lists.{Rising, Each, Same, each-same, tally-map, settled}
 use Rattle.spectral.specs.Sorted.{sort-same, sort-each, sort-rises}
 
 -- what total_cmp compares: a float's bits as a signed number, those below the sign flipped where the sign is set

@@ -1,17 +1,18 @@
 // The line spectral frequencies of a half frame, predicted from three residuals before it.
 ghost use mathlib.Core.Path.{_≡_};
 ghost use mathlib.Core.List.{_++_};
-ghost use Prim.Native.Nat.{_+_, _-_, _<_};
+ghost use Prim.Native.Nat.{_+_, _<_};
 ghost use mathlib.Core.Bool.{cond};
-ghost use lib.Dec.{ltb};
 ghost use lib.Signed.{leZ};
 ghost use lib.ListN.{length, getD, take, drop};
 ghost use lib.Ieee.{nan, lt};
+ghost use Rattle.tables.specs.Places.{WORDS, BYTES};
+ghost use Rattle.spectral.specs.Pushed.{pushedAt};
 ghost use Rattle.spectral.specs.Spectral as Spectral;
 
 // A word of the mean, at place k of a history.
 fn initial_at(words: &[i16], k: usize) -> f32
-    requires { ⌜ length (now words) ≡ 5963 ⌝ ∗ ⌜ k < 30 ⌝ }
+    requires { ⌜ length (now words) ≡ WORDS ⌝ ∗ ⌜ k < 30 ⌝ }
     ensures { λ r. ⌜ r ≡ Spectral.initialAt (now (words .entry)) k ⌝ }
 {
     tables::word(words, tables::LSF_MEAN + k % 10) as f32
@@ -19,7 +20,7 @@ fn initial_at(words: &[i16], k: usize) -> f32
 
 // The history at reset: three times the mean.
 pub fn initial(words: &[i16]) -> [f32; 30]
-    requires { ⌜ length (now words) ≡ 5963 ⌝ }
+    requires { ⌜ length (now words) ≡ WORDS ⌝ }
     ensures { λ r. ⌜ r ≡ Spectral.initial (now (words .entry)) ⌝ }
 {
     let mut out = [0.0f32; 30];
@@ -33,7 +34,7 @@ pub fn initial(words: &[i16]) -> [f32; 30]
 
 // The second stage's float for place k: five places each from two codebooks.
 fn stage2_at(bytes: &[u8], low: usize, high: usize, k: usize) -> f32
-    requires { ⌜ length (now bytes) ≡ 3908 ⌝ ∗ ⌜ low < 64 ⌝ ∗ ⌜ high < 64 ⌝ ∗ ⌜ k < 10 ⌝ }
+    requires { ⌜ length (now bytes) ≡ BYTES ⌝ ∗ ⌜ low < 64 ⌝ ∗ ⌜ high < 64 ⌝ ∗ ⌜ k < 10 ⌝ }
     ensures { λ r. ⌜ r ≡ Spectral.stage2At (now (bytes .entry)) low high k ⌝ }
 {
     if k < 5 {
@@ -45,14 +46,15 @@ fn stage2_at(bytes: &[u8], low: usize, high: usize, k: usize) -> f32
 
 // A word of the first stage's codebook and a float of the second's.
 fn residual_at(words: &[i16], bytes: &[u8], stage1: usize, low: usize, high: usize, k: usize) -> f32
-    requires { ⌜ length (now words) ≡ 5963 ⌝ ∗ ⌜ length (now bytes) ≡ 3908 ⌝ ∗ ⌜ (stage1 < 128) × (low < 64) × (high < 64) ⌝ ∗ ⌜ k < 10 ⌝ }
+    requires { ⌜ length (now words) ≡ WORDS ⌝ ∗ ⌜ length (now bytes) ≡ BYTES ⌝ ∗ ⌜ (stage1 < 128) × (low < 64) × (high < 64) ⌝ ∗ ⌜ k < 10 ⌝ }
     ensures { λ r. ⌜ r ≡ Spectral.residualAt (now (words .entry)) (now (bytes .entry)) stage1 low high k ⌝ }
 {
     tables::word(words, tables::LSF_CB1 + (stage1 * 10 + k)) as f32 + stage2_at(bytes, low, high, k)
 }
 
+// The ten floats of a residual.
 pub fn residual(words: &[i16], bytes: &[u8], stage1: usize, low: usize, high: usize) -> [f32; 10]
-    requires { ⌜ length (now words) ≡ 5963 ⌝ ∗ ⌜ length (now bytes) ≡ 3908 ⌝ ∗ ⌜ (stage1 < 128) × (low < 64) × (high < 64) ⌝ }
+    requires { ⌜ length (now words) ≡ WORDS ⌝ ∗ ⌜ length (now bytes) ≡ BYTES ⌝ ∗ ⌜ (stage1 < 128) × (low < 64) × (high < 64) ⌝ }
     ensures { λ r. ⌜ r ≡ Spectral.residual (now (words .entry)) (now (bytes .entry)) stage1 low high ⌝ }
 {
     let mut out = [0.0f32; 10];
@@ -66,7 +68,7 @@ pub fn residual(words: &[i16], bytes: &[u8], stage1: usize, low: usize, high: us
 
 // The sum of four products, worked left to right.
 fn sum_at(history: &[f32; 30], residual: &[f32; 10], bytes: &[u8], mode: usize, k: usize) -> f32
-    requires { ⌜ length (now bytes) ≡ 3908 ⌝ ∗ ⌜ mode < 2 ⌝ ∗ ⌜ k < 10 ⌝ }
+    requires { ⌜ length (now bytes) ≡ BYTES ⌝ ∗ ⌜ mode < 2 ⌝ ∗ ⌜ k < 10 ⌝ }
     ensures { λ r. ⌜ r ≡ Spectral.sumAt (now (history .entry)) (now (residual .entry)) (now (bytes .entry)) mode k ⌝ }
 {
     let a = tables::ma(bytes, mode, 0, k);
@@ -76,8 +78,9 @@ fn sum_at(history: &[f32; 30], residual: &[f32; 10], bytes: &[u8], mode: usize, 
     ((residual[k] * a + history[k] * b) + history[k + 10] * c) + history[k + 20] * d
 }
 
+// The ten sums.
 fn sums(history: &[f32; 30], residual: &[f32; 10], bytes: &[u8], mode: usize) -> [f32; 10]
-    requires { ⌜ length (now bytes) ≡ 3908 ⌝ ∗ ⌜ mode < 2 ⌝ }
+    requires { ⌜ length (now bytes) ≡ BYTES ⌝ ∗ ⌜ mode < 2 ⌝ }
     ensures { λ r. ⌜ r ≡ Spectral.sums (now (history .entry)) (now (residual .entry)) (now (bytes .entry)) mode ⌝ }
 {
     let mut out = [0.0f32; 10];
@@ -157,7 +160,7 @@ fn spread(a: [f32; 10]) -> [f32; 10]
 
 // The ten line spectral frequencies: the sums sorted and spread.
 pub fn predict(history: &[f32; 30], residual: &[f32; 10], bytes: &[u8], mode: usize) -> [f32; 10]
-    requires { ⌜ length (now bytes) ≡ 3908 ⌝ ∗ ⌜ mode < 2 ⌝ }
+    requires { ⌜ length (now bytes) ≡ BYTES ⌝ ∗ ⌜ mode < 2 ⌝ }
     ensures { λ r. ⌜ r ≡ Spectral.predict (now (history .entry)) (now (residual .entry)) (now (bytes .entry)) mode ⌝ }
 {
     spread(sort(sums(history, residual, bytes, mode)))
@@ -166,7 +169,7 @@ pub fn predict(history: &[f32; 30], residual: &[f32; 10], bytes: &[u8], mode: us
 // Place k of the history with a residual before it.
 fn pushed_at(history: &[f32; 30], residual: &[f32; 10], k: usize) -> f32
     requires { ⌜ k < 30 ⌝ }
-    ensures { λ r. ⌜ r ≡ cond (ltb k 10) (getD (now (residual .entry)) k nan) (getD (now (history .entry)) (k - 10) nan) ⌝ }
+    ensures { λ r. ⌜ r ≡ pushedAt (now (history .entry)) (now (residual .entry)) k ⌝ }
 {
     if k < 10 { residual[k] } else { history[k - 10] }
 }
@@ -184,6 +187,7 @@ pub fn push(history: [f32; 30], residual: [f32; 10]) -> [f32; 30]
     out
 }
 
+// The larger of two.
 fn larger_of(a: i16, b: i16) -> i16
     ensures { λ r. ⌜ r ≡ cond (leZ b a) a b ⌝ }
 {
@@ -198,7 +202,7 @@ pub fn quantise_lsf(lsf: [f32; 10]) -> [i16; 10]
     let mut prior = 0i16;
     let mut k = 0usize;
     while k < 10 {
-        prior = larger_of(floats::quantise(lsf[k], 25682), prior);
+        prior = larger_of(floats::quantise(25682, lsf[k]), prior);
         out[k] = prior;
         k += 1;
     }

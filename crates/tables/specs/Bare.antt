@@ -12,6 +12,7 @@ use lib.Signed.{leZ-yes}
 use lib.Ieee.{ofBits, binary32}
 use Rattle.floats.specs.Floats.{bitsAt, within}
 use Rattle.sequence.specs.First.{firstFrom}
+use Rattle.tables.specs.Places.{WORDS, BYTES}
 use Rattle.tables.specs.Tables.{unsigned, limitBad, bad, count, place, broken, report, firstFault, check}
 use Rattle.tables.specs.Rules.{Obeys, accepted}
 use Rattle.tables.specs.Sound.{Sound, sound}
@@ -36,13 +37,13 @@ unfoldable pub bareWords : List ℤ
 bareWords = replicate 186 (pos 0) ++ fromLimit
 
 unfoldable pub bareBytes : List ℕ
-bareBytes = replicate 3908 0
+bareBytes = replicate BYTES 0
 
-words-long : length bareWords ≡ 5963
+words-long : length bareWords ≡ WORDS
 unfolding bareWords fromLimit fromBases fromPulses fromSelectors fromEntries
 words-long = refl
 
-bytes-long : length bareBytes ≡ 3908
+bytes-long : length bareBytes ≡ BYTES
 unfolding bareBytes
 bytes-long = refl
 
@@ -93,10 +94,10 @@ entries : (k : ℕ) → k < 3200 → getD bareWords (1483 + k) (pos 0) ≡ pos 1
 unfolding fromSelectors fromEntries
 entries k h = at-selectors (1285 + k) (1483 + k) (omega arith) ∙ past 1285 k (1285 + k) (pos 0) fromEntries refl ∙ here 3200 k (pos 1) (replicate 1280 (pos 0)) h
 
-no-bits : (at : ℕ) → at + 3 < 3908 → bitsAt bareBytes at ≡ 0
+no-bits : (at : ℕ) → at + 3 < BYTES → bitsAt bareBytes at ≡ 0
 unfolding bitsAt bareBytes
 no-bits at h =
-    rw (getD-replicate {A = ℕ} 3908 at 0 0 (omega arith), getD-replicate {A = ℕ} 3908 (at + 1) 0 0 (omega arith), getD-replicate {A = ℕ} 3908 (at + 2) 0 0 (omega arith), getD-replicate {A = ℕ} 3908 (at + 3) 0 0 h)
+    rw (getD-replicate {A = ℕ} BYTES at 0 0 (omega arith), getD-replicate {A = ℕ} BYTES (at + 1) 0 0 (omega arith), getD-replicate {A = ℕ} BYTES (at + 2) 0 0 (omega arith), getD-replicate {A = ℕ} BYTES (at + 3) 0 0 h)
 
 no-float : T (within 65536 (ofBits binary32 0))
 unfolding within ofBits
@@ -104,13 +105,15 @@ no-float = tt
 
 pub bare-obeys : Obeys bareWords bareBytes
 bare-obeys = record {
-  limit-positive = rw limit-one (omega arith);
-  base-zero = ap unsigned (bases 0 (omega arith));
-  bases-rise = λ k h. rw (ap unsigned (bases k (omega arith))) (omega arith);
-  pulses-are = λ k h. inl (two-pulses k h);
-  selectors-within = λ k h. rw (zeros (3 * k) (198 + 3 * k) refl (omega arith)) (leZ-yes tt, leZ-yes tt);
-  positions-not-negative = λ k h. rw (zeros (45 + k) (243 + k) (omega arith) (omega arith)) (leZ-yes tt);
-  entries-within = λ k h. rw (entries k h) (leZ-yes tt, leZ-yes tt, λ z. let q : _≡_ {A = ℕ} 0 1 = cc in omega arith);
+  of-words = record {
+    limit-positive = rw limit-one (omega arith);
+    base-zero = ap unsigned (bases 0 (omega arith));
+    bases-rise = λ k h. rw (ap unsigned (bases k (omega arith))) (omega arith);
+    pulses-are = λ k h. inl (two-pulses k h);
+    selectors-within = λ k h. rw (zeros (3 * k) (198 + 3 * k) refl (omega arith)) (leZ-yes tt, leZ-yes tt);
+    positions-not-negative = λ k h. rw (zeros (45 + k) (243 + k) (omega arith) (omega arith)) (leZ-yes tt);
+    entries-within = λ k h. rw (entries k h) (leZ-yes tt, leZ-yes tt, λ z. let q : _≡_ {A = ℕ} 0 1 = cc in omega arith);
+  };
   floats-within = λ k h. rw (no-bits (4 * k) (omega arith)) no-float;
 }
 

@@ -1,6 +1,6 @@
 -- The set rules in document 01's words, and that the tests of Tables decide them.
 use Prim.Native.Nat.{ℕ, zero, suc, _+_, _-_, _*_, _≤_, _<_}
-use mathlib.Core.Path.{_≡_, refl, sym, ap, subst}
+use mathlib.Core.Path.{_≡_, refl, sym, ap}
 use mathlib.Core.List.{List}
 use mathlib.Core.Bool.{Bool, true, false, _&&_, not, cond, true≢false}
 use mathlib.Core.Logic.{_⊎_, inl, inr}
@@ -11,12 +11,13 @@ use lib.IntN.{ℤ, pos, negsuc}
 use lib.Signed.{leZ, ltZ, _≤ℤ_, leZ-yes, ltZ-no}
 use borrow.Author.Tests.{leb-true, le-leb, ltb-false, le-ltb, eqb-true, eqb-false, eq-eqb, ne-eqb, not-false}
 use Rattle.floats.specs.Floats.{floatAt, within}
-use Rattle.sequence.specs.All.{and-left, and-right}
+use Rattle.sequence.specs.All.{is-true, holds, and-left, and-right}
 use Rattle.sequence.specs.First.{some, some-at, some-all}
 use Rattle.tables.specs.Places.{WORDS, BYTES}
 use Rattle.tables.specs.Tables.{limit, base, pulses, selector, position, entry, between, limitBad, pulsesBad, selectorBad, positionBad, entryBad, floatBad, count, bad, broken, check}
 
-pub record Obeys (words : List ℤ) (bytes : List ℕ) : Type 0 where
+-- rules 1 to 5, which are of the words
+pub record WordsObey (words : List ℤ) : Type 0 where
   -- 1: limit at least 1; base 0 is 0 and bases never fall
   pub limit-positive : 1 ≤ limit words
   pub base-zero : base words 0 ≡ 0
@@ -29,22 +30,21 @@ pub record Obeys (words : List ℤ) (bytes : List ℕ) : Type 0 where
   pub positions-not-negative : (k : ℕ) → k < 600 → pos 0 ≤ℤ position words k
   -- 5: ALT entries within -80..=80 and not 0
   pub entries-within : (k : ℕ) → k < 3200 → (negsuc 79 ≤ℤ entry words k) × (entry words k ≤ℤ pos 80) × (entry words k ≡ pos 0 → ⊥)
-  -- 6: every f32 finite and within ±65,536
-  pub floats-within : (k : ℕ) → k < 977 → T (within 65536 (floatAt bytes (4 * k)))
+
+-- 6: every f32 finite and within ±65,536
+abbrev pub BytesObey : List ℕ → Type 0
+BytesObey bytes = (k : ℕ) → k < 977 → T (within 65536 (floatAt bytes (4 * k)))
+
+pub record Obeys (words : List ℤ) (bytes : List ℕ) : Type 0 where
+  pub of-words : WordsObey words
+  pub floats-within : BytesObey bytes
 
 -- ---- each test and what it says
-is : (b : Bool) → T b → b ≡ true
-is true t = refl
-is false t = absurd t
-
-holds : {b : Bool} → b ≡ true → T b
-holds e = subst T (sym e) tt
-
 between→ : (a b x : ℤ) → between a b x ≡ true → (a ≤ℤ x) × (x ≤ℤ b)
 between→ a b x e = (leZ-yes (holds (and-left (leZ a x) (leZ x b) e)), leZ-yes (holds (and-right (leZ a x) (leZ x b) e)))
 
 →between : (a b x : ℤ) → a ≤ℤ x → x ≤ℤ b → between a b x ≡ true
-→between a b x p q = rw (is (leZ a x) (p .le)) (is (leZ x b) (q .le))
+→between a b x p q = rw (is-true (leZ a x) (p .le)) (is-true (leZ x b) (q .le))
 
 two-three : (n : ℕ) → 2 ≤ n → n ≤ 3 → (pos n ≡ pos 2) ⊎ (pos n ≡ pos 3)
 two-three zero p q = absurd (omega arith)
@@ -87,8 +87,8 @@ entry→ (negsuc n) e =
 →entry : (x : ℤ) → (negsuc 79 ≤ℤ x) × (x ≤ℤ pos 80) × (x ≡ pos 0 → ⊥) → sided x ≡ false
 unfolding sided
 →entry (pos zero) h = absurd (h .2 refl)
-→entry (pos (suc n)) h = rw (is (leb (suc n) 80) (h .1 .le), le-leb 1 (suc n) (omega arith))
-→entry (negsuc n) h = rw (is (leb n 79) (h .0 .le), le-leb 0 n (omega arith))
+→entry (pos (suc n)) h = rw (is-true (leb (suc n) 80) (h .1 .le), le-leb 1 (suc n) (omega arith))
+→entry (negsuc n) h = rw (is-true (leb n 79) (h .0 .le), le-leb 0 n (omega arith))
 
 float→ : (x : Bool) → not x ≡ false → T x
 float→ x e = holds (not-false x e)
@@ -123,7 +123,7 @@ module _ (words : List ℤ) (bytes : List ℕ) where
   unfolding limitBad
   zero-base e = eqb-true (base words 0) 0 (not-false (eqb (base words 0) 0) e)
 
-  limit-fine : Obeys words bytes → (k : ℕ) → k < 7 → limitBad words k ≡ false
+  limit-fine : WordsObey words → (k : ℕ) → k < 7 → limitBad words k ≡ false
   unfolding limitBad
   limit-fine o zero h = let p = o .limit-positive in ne-eqb (limit words) 0 (λ z. omega arith)
   limit-fine o (suc zero) h = ap not (eq-eqb (base words 0) 0 (o .base-zero))
@@ -133,13 +133,15 @@ module _ (words : List ℤ) (bytes : List ℕ) where
   pub obeys : some (broken words bytes) 7 ≡ false → Obeys words bytes
   unfolding count bad pulsesBad selectorBad positionBad entryBad floatBad sided
   obeys e = record {
-    limit-positive = positive (all-fine e 1 0 (omega arith) (omega arith));
-    base-zero = zero-base (all-fine e 1 1 (omega arith) (omega arith));
-    bases-rise = λ k h. rising k (all-fine e 1 (k + 2) (omega arith) (omega arith));
-    pulses-are = λ k h. two-or-three (pulses words k) (not-false (between (pos 2) (pos 3) (pulses words k)) (all-fine e 2 k (omega arith) h));
-    selectors-within = λ k h. between→ (pos 0) (pos 29) (selector words k) (not-false (between (pos 0) (pos 29) (selector words k)) (all-fine e 3 k (omega arith) h));
-    positions-not-negative = λ k h. not-negative (position words k) (all-fine e 4 k (omega arith) h);
-    entries-within = λ k h. entry→ (entry words k) (all-fine e 5 k (omega arith) h);
+    of-words = record {
+      limit-positive = positive (all-fine e 1 0 (omega arith) (omega arith));
+      base-zero = zero-base (all-fine e 1 1 (omega arith) (omega arith));
+      bases-rise = λ k h. rising k (all-fine e 1 (k + 2) (omega arith) (omega arith));
+      pulses-are = λ k h. two-or-three (pulses words k) (not-false (between (pos 2) (pos 3) (pulses words k)) (all-fine e 2 k (omega arith) h));
+      selectors-within = λ k h. between→ (pos 0) (pos 29) (selector words k) (not-false (between (pos 0) (pos 29) (selector words k)) (all-fine e 3 k (omega arith) h));
+      positions-not-negative = λ k h. not-negative (position words k) (all-fine e 4 k (omega arith) h);
+      entries-within = λ k h. entry→ (entry words k) (all-fine e 5 k (omega arith) h);
+    };
     floats-within = λ k h. float→ (within 65536 (floatAt bytes (4 * k))) (all-fine e 6 k (omega arith) h);
   }
 
@@ -147,12 +149,12 @@ module _ (words : List ℤ) (bytes : List ℕ) where
   none-bad : Obeys words bytes → (r k : ℕ) → k < count r → bad words bytes r k ≡ false
   unfolding count bad pulsesBad selectorBad positionBad entryBad floatBad sided
   none-bad o zero k h = refl
-  none-bad o (suc zero) k h = limit-fine o k h
-  none-bad o (suc (suc zero)) k h = ap not (is-two-or-three (pulses words k) (o .pulses-are k h))
-  none-bad o (suc (suc (suc zero))) k h = let p = o .selectors-within k h in ap not (→between (pos 0) (pos 29) (selector words k) (p .0) (p .1))
-  none-bad o (suc (suc (suc (suc zero)))) k h = is-not-negative (position words k) (o .positions-not-negative k h)
-  none-bad o (suc (suc (suc (suc (suc zero))))) k h = →entry (entry words k) (o .entries-within k h)
-  none-bad o (suc (suc (suc (suc (suc (suc zero)))))) k h = ap not (is (within 65536 (floatAt bytes (4 * k))) (o .floats-within k h))
+  none-bad o (suc zero) k h = limit-fine (o .of-words) k h
+  none-bad o (suc (suc zero)) k h = ap not (is-two-or-three (pulses words k) (o .of-words .pulses-are k h))
+  none-bad o (suc (suc (suc zero))) k h = let p = o .of-words .selectors-within k h in ap not (→between (pos 0) (pos 29) (selector words k) (p .0) (p .1))
+  none-bad o (suc (suc (suc (suc zero)))) k h = is-not-negative (position words k) (o .of-words .positions-not-negative k h)
+  none-bad o (suc (suc (suc (suc (suc zero))))) k h = →entry (entry words k) (o .of-words .entries-within k h)
+  none-bad o (suc (suc (suc (suc (suc (suc zero)))))) k h = ap not (is-true (within 65536 (floatAt bytes (4 * k))) (o .floats-within k h))
   none-bad o (suc (suc (suc (suc (suc (suc (suc r))))))) k h = refl
 
   pub not-broken : Obeys words bytes → some (broken words bytes) 7 ≡ false

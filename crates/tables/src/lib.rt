@@ -4,13 +4,13 @@ ghost use mathlib.Core.Bool.{_||_};
 ghost use Prim.Native.Nat.{_+_, _*_, _<_};
 ghost use lib.ListN.{length};
 ghost use Rattle.sequence.specs.First.{first, some};
-ghost use Rattle.tables.specs.Places.{places};
+ghost use Rattle.tables.specs.Places as Places;
 ghost use Rattle.tables.specs.Tables as Tables;
 
 // How long the two parts of a set are.
-pub const WORDS: usize = 5963;
+const WORDS: usize = 5963;
 
-pub const BYTES: usize = 3908;
+const BYTES: usize = 3908;
 
 // Where each table begins in the words.
 pub const COS: usize = 0;
@@ -50,20 +50,19 @@ pub const FCB_ALT_B: usize = 4043;
 pub const LSF_CB1: usize = 4683;
 
 // Where each table begins in the bytes.
-pub const PITCH_GAIN: usize = 0;
+const PITCH_GAIN: usize = 0;
 
-pub const LOG_GAIN: usize = 512;
+const LOG_GAIN: usize = 512;
 
-pub const GAIN_BIAS: usize = 1024;
+const GAIN_BIAS: usize = 1024;
 
-pub const LOW: usize = 1028;
+const LOW: usize = 1028;
 
-pub const HIGH: usize = 2308;
+const HIGH: usize = 2308;
 
-pub const MA: usize = 3588;
+const MA: usize = 3588;
 
-// The lowest set rule that is broken, 1 to 6, and its first offending place: a word's, or a float's first byte's.
-// Both are 0 where none is broken.
+// A set rule, 1 to 6, and a place that breaks it: a word's, or that of a float's first byte.
 pub struct Fault {
     pub rule: u8,
     pub place: usize,
@@ -71,7 +70,7 @@ pub struct Fault {
 
 // Nothing calls this: its proof holds the places above to those of the definitions.
 fn agree() -> [usize; 26]
-    ensures { λ r. ⌜ r ≡ places ⌝ }
+    ensures { λ r. ⌜ r ≡ Places.places ⌝ }
 {
     [
         COS,
@@ -132,7 +131,7 @@ pub fn unsigned_word(words: &[i16], at: usize) -> u16
 
 // Whether the k-th place of rule 1 breaks it: the limit, and the bases after it.
 fn limit_bad(words: &[i16], k: usize) -> bool
-    requires { ⌜ length (now words) ≡ 5963 ⌝ ∗ ⌜ k < 7 ⌝ }
+    requires { ⌜ length (now words) ≡ Places.WORDS ⌝ ∗ ⌜ k < 7 ⌝ }
     ensures { λ r. ⌜ r ≡ Tables.limitBad (now (words .entry)) k ⌝ }
 {
     let x = unsigned_word(words, FCB_INDEX_LIMIT + k);
@@ -145,37 +144,40 @@ fn limit_bad(words: &[i16], k: usize) -> bool
     x < unsigned_word(words, FCB_INDEX_LIMIT + k - 1)
 }
 
+// Whether x is within low..=high.
 fn between(low: i16, high: i16, x: i16) -> bool
     ensures { λ r. ⌜ r ≡ Tables.between low high x ⌝ }
 {
     if low <= x { x <= high } else { false }
 }
 
+// Rule 2's k-th place.
 fn pulses_bad(words: &[i16], k: usize) -> bool
-    requires { ⌜ length (now words) ≡ 5963 ⌝ ∗ ⌜ k < 5 ⌝ }
+    requires { ⌜ length (now words) ≡ Places.WORDS ⌝ ∗ ⌜ k < 5 ⌝ }
     ensures { λ r. ⌜ r ≡ Tables.pulsesBad (now (words .entry)) k ⌝ }
 {
     !between(2, 3, word(words, FCB_PULSES + k))
 }
 
-// A class has three selectors, of which the first is read.
+// Rule 3's: a class has three selectors, of which the first is read.
 fn selector_bad(words: &[i16], k: usize) -> bool
-    requires { ⌜ length (now words) ≡ 5963 ⌝ ∗ ⌜ k < 5 ⌝ }
+    requires { ⌜ length (now words) ≡ Places.WORDS ⌝ ∗ ⌜ k < 5 ⌝ }
     ensures { λ r. ⌜ r ≡ Tables.selectorBad (now (words .entry)) k ⌝ }
 {
     !between(0, 29, word(words, FCB_SHAPE_SEL + 3 * k))
 }
 
+// Rule 4's.
 fn position_bad(words: &[i16], k: usize) -> bool
-    requires { ⌜ length (now words) ≡ 5963 ⌝ ∗ ⌜ k < 600 ⌝ }
+    requires { ⌜ length (now words) ≡ Places.WORDS ⌝ ∗ ⌜ k < 600 ⌝ }
     ensures { λ r. ⌜ r ≡ Tables.positionBad (now (words .entry)) k ⌝ }
 {
     word(words, FCB_POSITIONS + k) < 0
 }
 
-// FCB_ALT_B follows FCB_ALT_A.
+// Rule 5's: FCB_ALT_B follows FCB_ALT_A.
 fn entry_bad(words: &[i16], k: usize) -> bool
-    requires { ⌜ length (now words) ≡ 5963 ⌝ ∗ ⌜ k < 3200 ⌝ }
+    requires { ⌜ length (now words) ≡ Places.WORDS ⌝ ∗ ⌜ k < 3200 ⌝ }
     ensures { λ r. ⌜ r ≡ Tables.entryBad (now (words .entry)) k ⌝ }
 {
     let x = word(words, FCB_ALT_A + k);
@@ -185,8 +187,9 @@ fn entry_bad(words: &[i16], k: usize) -> bool
     !between(1, 80, x)
 }
 
+// Rule 6's.
 fn float_bad(bytes: &[u8], k: usize) -> bool
-    requires { ⌜ length (now bytes) ≡ 3908 ⌝ ∗ ⌜ k < 977 ⌝ }
+    requires { ⌜ length (now bytes) ≡ Places.BYTES ⌝ ∗ ⌜ k < 977 ⌝ }
     ensures { λ r. ⌜ r ≡ Tables.floatBad (now (bytes .entry)) k ⌝ }
 {
     !floats::pattern_within(floats::bits_at(bytes, 4 * k))
@@ -207,6 +210,7 @@ const STARTS: [usize; 7] = [
 
 const STRIDES: [usize; 7] = [0, 1, 1, 3, 1, 1, 4];
 
+// How many places a rule has.
 fn count(rule: usize) -> usize
     requires { ⌜ rule < 7 ⌝ }
     ensures { λ r. ⌜ r ≡ Tables.count rule ⌝ }
@@ -214,6 +218,7 @@ fn count(rule: usize) -> usize
     COUNTS[rule]
 }
 
+// Where the k-th place of a rule is.
 fn place(rule: usize, k: usize) -> usize
     requires { ⌜ rule < 7 ⌝ ∗ ⌜ k < Tables.count rule ⌝ }
     ensures { λ r. ⌜ r ≡ Tables.place rule k ⌝ }
@@ -223,7 +228,7 @@ fn place(rule: usize, k: usize) -> usize
 
 // Whether the k-th place of a rule breaks it.
 fn bad(words: &[i16], bytes: &[u8], rule: usize, k: usize) -> bool
-    requires { ⌜ length (now words) ≡ 5963 ⌝ ∗ ⌜ length (now bytes) ≡ 3908 ⌝ ∗ ⌜ rule < 7 ⌝ ∗ ⌜ k < Tables.count rule ⌝ }
+    requires { ⌜ length (now words) ≡ Places.WORDS ⌝ ∗ ⌜ length (now bytes) ≡ Places.BYTES ⌝ ∗ ⌜ rule < 7 ⌝ ∗ ⌜ k < Tables.count rule ⌝ }
     ensures { λ r. ⌜ r ≡ Tables.bad (now (words .entry)) (now (bytes .entry)) rule k ⌝ }
 {
     if rule == 1 {
@@ -246,7 +251,7 @@ fn bad(words: &[i16], bytes: &[u8], rule: usize, k: usize) -> bool
 
 // The first place of a rule that breaks it, or the number of its places.
 fn first_bad(words: &[i16], bytes: &[u8], rule: usize) -> usize
-    requires { ⌜ length (now words) ≡ 5963 ⌝ ∗ ⌜ length (now bytes) ≡ 3908 ⌝ ∗ ⌜ rule < 7 ⌝ }
+    requires { ⌜ length (now words) ≡ Places.WORDS ⌝ ∗ ⌜ length (now bytes) ≡ Places.BYTES ⌝ ∗ ⌜ rule < 7 ⌝ }
     ensures { λ r. ⌜ r ≡ first (Tables.bad (now (words .entry)) (now (bytes .entry)) rule) (Tables.count rule) ⌝ }
 {
     let n = count(rule);
@@ -260,8 +265,9 @@ fn first_bad(words: &[i16], bytes: &[u8], rule: usize) -> usize
     k
 }
 
+// The lowest set rule that is broken and its first offending place; both are 0 where none is broken.
 pub fn first_fault(words: &[i16], bytes: &[u8]) -> Fault
-    requires { ⌜ length (now words) ≡ 5963 ⌝ ∗ ⌜ length (now bytes) ≡ 3908 ⌝ }
+    requires { ⌜ length (now words) ≡ Places.WORDS ⌝ ∗ ⌜ length (now bytes) ≡ Places.BYTES ⌝ }
     ensures { λ r. ⌜ r ≡ Tables.firstFault (now (words .entry)) (now (bytes .entry)) ⌝ }
 {
     let mut rule = 1;
@@ -278,6 +284,7 @@ pub fn first_fault(words: &[i16], bytes: &[u8]) -> Fault
     Fault { rule: 0, place: 0 }
 }
 
+// Whether one of the two is so.
 fn either(a: bool, b: bool) -> bool
     ensures { λ r. ⌜ r ≡ a || b ⌝ }
 {
@@ -286,7 +293,7 @@ fn either(a: bool, b: bool) -> bool
 
 // Whether there is an offending place. These three do not stop at one: a loop with one way out is done several places at a time.
 fn some_position(words: &[i16]) -> bool
-    requires { ⌜ length (now words) ≡ 5963 ⌝ }
+    requires { ⌜ length (now words) ≡ Places.WORDS ⌝ }
     ensures { λ r. ⌜ r ≡ some (Tables.positionBad (now (words .entry))) 600 ⌝ }
 {
     let mut any = false;
@@ -299,7 +306,7 @@ fn some_position(words: &[i16]) -> bool
 }
 
 fn some_entry(words: &[i16]) -> bool
-    requires { ⌜ length (now words) ≡ 5963 ⌝ }
+    requires { ⌜ length (now words) ≡ Places.WORDS ⌝ }
     ensures { λ r. ⌜ r ≡ some (Tables.entryBad (now (words .entry))) 3200 ⌝ }
 {
     let mut any = false;
@@ -312,7 +319,7 @@ fn some_entry(words: &[i16]) -> bool
 }
 
 fn some_float(bytes: &[u8]) -> bool
-    requires { ⌜ length (now bytes) ≡ 3908 ⌝ }
+    requires { ⌜ length (now bytes) ≡ Places.BYTES ⌝ }
     ensures { λ r. ⌜ r ≡ some (Tables.floatBad (now (bytes .entry))) 977 ⌝ }
 {
     let mut any = false;
@@ -326,7 +333,7 @@ fn some_float(bytes: &[u8]) -> bool
 
 // Whether a rule is broken.
 fn any_broken(words: &[i16], bytes: &[u8]) -> bool
-    requires { ⌜ length (now words) ≡ 5963 ⌝ ∗ ⌜ length (now bytes) ≡ 3908 ⌝ }
+    requires { ⌜ length (now words) ≡ Places.WORDS ⌝ ∗ ⌜ length (now bytes) ≡ Places.BYTES ⌝ }
     ensures { λ r. ⌜ r ≡ some (Tables.broken (now (words .entry)) (now (bytes .entry))) 7 ⌝ }
 {
     if first_bad(words, bytes, 1) < 7 {
@@ -363,44 +370,49 @@ pub fn check(words: &[i16], bytes: &[u8]) -> u8
     0
 }
 
-// The f32 readers of config.rs.
+// The f32 readers of config.rs. The pitch gain of a gain index.
 pub fn pitch_gain(bytes: &[u8], i: usize) -> f32
-    requires { ⌜ length (now bytes) ≡ 3908 ⌝ ∗ ⌜ i < 128 ⌝ }
+    requires { ⌜ length (now bytes) ≡ Places.BYTES ⌝ ∗ ⌜ i < 128 ⌝ }
     ensures { λ r. ⌜ r ≡ Tables.pitchGain (now (bytes .entry)) i ⌝ }
 {
     floats::float_at(bytes, PITCH_GAIN + 4 * i)
 }
 
+// The correction of a gain index.
 pub fn log_gain(bytes: &[u8], i: usize) -> f32
-    requires { ⌜ length (now bytes) ≡ 3908 ⌝ ∗ ⌜ i < 128 ⌝ }
+    requires { ⌜ length (now bytes) ≡ Places.BYTES ⌝ ∗ ⌜ i < 128 ⌝ }
     ensures { λ r. ⌜ r ≡ Tables.logGain (now (bytes .entry)) i ⌝ }
 {
     floats::float_at(bytes, LOG_GAIN + 4 * i)
 }
 
+// The bias of the predicted gain.
 pub fn gain_bias(bytes: &[u8]) -> f32
-    requires { ⌜ length (now bytes) ≡ 3908 ⌝ }
+    requires { ⌜ length (now bytes) ≡ Places.BYTES ⌝ }
     ensures { λ r. ⌜ r ≡ Tables.gainBias (now (bytes .entry)) ⌝ }
 {
     floats::float_at(bytes, GAIN_BIAS)
 }
 
+// Place k of entry i of the second stage's lower codebook.
 pub fn low(bytes: &[u8], i: usize, k: usize) -> f32
-    requires { ⌜ length (now bytes) ≡ 3908 ⌝ ∗ ⌜ i < 64 ⌝ ∗ ⌜ k < 5 ⌝ }
+    requires { ⌜ length (now bytes) ≡ Places.BYTES ⌝ ∗ ⌜ i < 64 ⌝ ∗ ⌜ k < 5 ⌝ }
     ensures { λ r. ⌜ r ≡ Tables.low (now (bytes .entry)) i k ⌝ }
 {
     floats::float_at(bytes, LOW + 4 * (5 * i + k))
 }
 
+// Place k of entry i of its upper codebook.
 pub fn high(bytes: &[u8], i: usize, k: usize) -> f32
-    requires { ⌜ length (now bytes) ≡ 3908 ⌝ ∗ ⌜ i < 64 ⌝ ∗ ⌜ k < 5 ⌝ }
+    requires { ⌜ length (now bytes) ≡ Places.BYTES ⌝ ∗ ⌜ i < 64 ⌝ ∗ ⌜ k < 5 ⌝ }
     ensures { λ r. ⌜ r ≡ Tables.high (now (bytes .entry)) i k ⌝ }
 {
     floats::float_at(bytes, HIGH + 4 * (5 * i + k))
 }
 
+// A mode's coefficient for place k of a residual, of the own one (tap 0) or of one of the three before it.
 pub fn ma(bytes: &[u8], mode: usize, tap: usize, k: usize) -> f32
-    requires { ⌜ length (now bytes) ≡ 3908 ⌝ ∗ ⌜ mode < 2 ⌝ ∗ ⌜ tap < 4 ⌝ ∗ ⌜ k < 10 ⌝ }
+    requires { ⌜ length (now bytes) ≡ Places.BYTES ⌝ ∗ ⌜ mode < 2 ⌝ ∗ ⌜ tap < 4 ⌝ ∗ ⌜ k < 10 ⌝ }
     ensures { λ r. ⌜ r ≡ Tables.ma (now (bytes .entry)) mode tap k ⌝ }
 {
     floats::float_at(bytes, MA + 4 * (mode * 40 + tap * 10 + k))

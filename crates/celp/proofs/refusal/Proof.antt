@@ -6,7 +6,6 @@ use borrow.Author.Tests.{eq-eqb, ne-eqb, not-true, not-false}
 use Rattle.tables.specs.Rules.{tests}
 use Rattle.tables.specs.Sound.{sound}
 use Rattle.bits.specs.Bits.{fieldsOf}
-use Rattle.tables.specs.SoundWords.{sound-words}
 use Rattle.frame.specs.Frame as Frame
 use Rattle.celp.specs.Celp.{refusal}
 use Rattle.celp.proofs.Refusals.{wrong-lengths, right-lengths, broken-rule, in-order}
@@ -81,7 +80,7 @@ returns-6 c =
     rw (right-lengths w b (k .result) (k .ensures) one, eq-eqb _ _ (c .before .before .before .before .before .before .if2 .left), eq-eqb _ _ (c .before .before .before .before .before .if3 .left), tests w b (sym (k .ensures) ∙ c .before .before .before .before .if4 .left) .2, ← (o .ensures), not-false (o .result) (c .before .before .if5 .left), ne-eqb _ _ (c .if6 .taken))
 
 digits-fit-requires : tie.Need-digits-fit-requires
-digits-fit-requires c κs = sound-words (sound _ _ (sym (c .before .before .before .before .before .before .before .before .check .ensures) ∙ c .before .before .before .before .if4 .left))
+digits-fit-requires c κs = sound _ _ (sym (c .before .before .before .before .before .before .before .before .check .ensures) ∙ c .before .before .before .before .if4 .left) .of-words
 
 returns-7 : tie.Need-returns-7
 unfolding refusal

@@ -9,7 +9,7 @@ unsigned-word-requires : tie.Need-unsigned-word-requires
 unsigned-word-requires c κs = search needs
 
 sub-last : tie.Need-sub-last
-sub-last c = rw (c .unsigned-word .ensures) (c .before .pre .limit-positive)
+sub-last c = rw (c .unsigned-word .ensures) (c .before .pre .rules .limit-positive)
 
 returns : tie.Need-returns
 unfolding cut

@@ -46,7 +46,7 @@ synthesise-both-requires c κs =
 run-requires : tie.Need-run-requires
 run-requires c κs =
     let q = c .before .before .before .before .before .before .before .before .before .before .before .before .before .before .before .before .before .before .before in
-    start q .pre .0 .words-long
+    start q .pre .0 .of-words .words-long
 
 slice-aggregate-kept : tie.Need-slice-aggregate-kept
 slice-aggregate-kept c = search needs

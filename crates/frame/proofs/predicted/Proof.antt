@@ -12,7 +12,7 @@ quantise-lsf-requires : tie.Need-quantise-lsf-requires
 quantise-lsf-requires c κs = search needs
 
 lsf-to-lsp-requires : tie.Need-lsf-to-lsp-requires
-lsf-to-lsp-requires c κs = (c .before .before .before .pre .0 .words-long, λ k h. rw (c .quantise-lsf .ensures) (lsf-range (c .before .predict .result) k h .0))
+lsf-to-lsp-requires c κs = (c .before .before .before .pre .0 .of-words .words-long, λ k h. rw (c .quantise-lsf .ensures) (lsf-range (c .before .predict .result) k h .0))
 
 returns : tie.Need-returns
 unfolding predicted

@@ -1,7 +1,6 @@
 -- What the check lets pass is sound.
 use mathlib.Core.Path.{sym, _∙_}
 use Rattle.tables.specs.Sound.{sound}
-use Rattle.tables.specs.SoundWords.{sound-words}
 use borrow.Author.Needs.{needs}
 use Rattle.replay_voice.proofs.replayed.Statement.{statement}
 use Rattle.replay_voice.proofs.replayed.Tie as tie
@@ -10,7 +9,7 @@ check-requires : tie.Need-check-requires
 check-requires c κs = search needs
 
 asked-all-requires : tie.Need-asked-all-requires
-asked-all-requires c κs = (sound-words (sound _ _ (sym (c .before .check .ensures) ∙ c .if1 .taken)), search needs)
+asked-all-requires c κs = (sound _ _ (sym (c .before .check .ensures) ∙ c .if1 .taken) .of-words, search needs)
 
 returns : tie.Need-returns
 returns c = search needs

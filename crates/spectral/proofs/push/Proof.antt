@@ -4,7 +4,7 @@ use Prim.Native.Nat.{_-_}
 use lib.ListN.{replicate}
 use lib.Ieee.{binary32, ofBits}
 use Rattle.sequence.specs.Table.{Written, written-none, written-more, written-end}
-use Rattle.spectral.proofs.Pushed.{pushedAt, push-table}
+use Rattle.spectral.specs.Pushed.{pushedAt, push-table}
 use borrow.Author.Needs.{needs}
 use Rattle.spectral.proofs.push.Statement.{statement}
 use Rattle.spectral.proofs.push.Tie as tie

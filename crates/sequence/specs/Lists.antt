@@ -1,15 +1,16 @@
--- What a sort is held to: the list rises, by a test, and every count over it stays. The two settle a list of whole numbers.
+-- A test that each element passes; and what a sort is held to: the list rises, by a test, and every count over it stays. The two settle a list of whole numbers.
 use mathlib.Core.Path.{_≡_, refl, sym, ap, _∙_, subst}
-use mathlib.Core.List.{List, [], _∷_, _++_, map}
-use Prim.Native.Nat.{ℕ, zero, suc, _+_, _<_}
+use mathlib.Core.List.{List, [], _∷_, map}
+use Prim.Native.Nat.{ℕ, _+_, _<_}
 use native.Mathlib.Nat.{le-trans}
 use native.Mathlib.Omega.{arith}
-use mathlib.Core.Bool.{Bool, true, false, cond, true≢false, false≢true}
+use mathlib.Core.Bool.{Bool, true, false, _&&_, cond, true≢false, false≢true}
 use lib.IntN.{ℤ, pos, negsuc}
 use lib.Dec.{T}
 use lib.ListN.{length, getD}
 use lib.Signed.{leZ}
-use Rattle.sequence.specs.Table.{table}
+use Rattle.sequence.specs.Table.{table, getD-table, length-table}
+use Rattle.sequence.specs.All.{all, all-at, all-of, is-true, holds, and-left, and-right}
 use borrow.Author.Tests.{le-leb, leb-true}
 
 -- 1 for a test that is not passed
@@ -23,10 +24,26 @@ module _ {A : Type 0} where
   Rising R (x ∷ []) = Unit
   Rising R (x ∷ (y ∷ l)) = (R x y ≡ true) × Rising R (y ∷ l)
 
-  -- each passes a test by itself
+  -- each passes a test by itself: `all`, as a proof that is taken apart element by element
   abbrev pub Each : (A → Bool) → List A → Type 0
   Each p [] = Unit
   Each p (x ∷ l) = T (p x) × Each p l
+
+  pub each-all : (p : A → Bool) (l : List A) → Each p l → all p l ≡ true
+  each-all p [] h = refl
+  each-all p (x ∷ l) h = ap (λ (b : Bool). b && all p l) (is-true (p x) (h .0)) ∙ each-all p l (h .1)
+
+  all-each : (p : A → Bool) (l : List A) → all p l ≡ true → Each p l
+  all-each p [] e = tt
+  all-each p (x ∷ l) e = (holds (and-left (p x) (all p l) e), all-each p l (and-right (p x) (all p l) e))
+
+  pub each-at : (p : A → Bool) (l : List A) (d : A) → Each p l → (k : ℕ) → k < length l → T (p (getD l k d))
+  each-at p l d h k g = holds (all-at p l d (each-all p l h) k g)
+
+  pub each-table : (p : A → Bool) (f : ℕ → A) (n : ℕ) → ((k : ℕ) → k < n → T (p (f k))) → Each p (table f n)
+  each-table p f n h =
+      let z = length-table f n in
+      all-each p (table f n) (all-of p (table f n) (f 0) (λ k g. ap p (getD-table f n k (f 0) (omega arith)) ∙ is-true (p (f k)) (h k (omega arith))))
 
   -- the counts, each element weighed by f
   unfoldable pub tally : (A → ℕ) → List A → ℕ
@@ -58,21 +75,6 @@ module _ {A : Type 0} where
 
   pub each-same : (p : A → Bool) (k l : List A) → Same k l → Each p l → Each p k
   each-same p k l s h = all-pass p k (s (λ x. weigh (p x)) ∙ none-fails p l h)
-
-  -- a test that f passes at each place
-  each-append : (p : A → Bool) (k l : List A) → Each p k → Each p l → Each p (k ++ l)
-  each-append p [] l g h = h
-  each-append p (x ∷ k) l g h = (g .0, each-append p k l (g .1) h)
-
-  pub each-table : (p : A → Bool) (f : ℕ → A) (n : ℕ) → ((k : ℕ) → k < n → T (p (f k))) → Each p (table f n)
-  unfolding table
-  each-table p f zero h = tt
-  each-table p f (suc n) h = each-append p (table f n) (f n ∷ []) (each-table p f n (λ k l. h k (omega arith))) (h n (omega arith), tt)
-
-  pub each-at : (p : A → Bool) (l : List A) (d : A) → Each p l → (k : ℕ) → k < length l → T (p (getD l k d))
-  each-at p [] d h k g = absurd (omega arith)
-  each-at p (x ∷ l) d h zero g = h .0
-  each-at p (x ∷ l) d h (suc k) g = each-at p l d (h .1) k (omega arith)
 
   -- the number of the elements is one of the counts
   tally-length : (l : List A) → tally (λ x. 1) l ≡ length l
