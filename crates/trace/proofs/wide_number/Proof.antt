@@ -1,7 +1,7 @@
 use Rattle.fixed.specs.Machine.{widens}
 use borrow.Author.Needs.{needs}
-use Rattle.trace.proofs.say.wide_number.Statement.{statement}
-use Rattle.trace.proofs.say.wide_number.Tie as tie
+use Rattle.trace.proofs.wide_number.Statement.{statement}
+use Rattle.trace.proofs.wide_number.Tie as tie
 
 cast-result : tie.Need-cast-result
 cast-result c = widens tt (c .fits .x)

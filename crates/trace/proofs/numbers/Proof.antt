@@ -1,8 +1,8 @@
 use Prim.Native.Nat.{_≤_, _<_, _-_}
 use lib.ListN.{length}
 use borrow.Author.Needs.{needs}
-use Rattle.trace.proofs.say.floats.Statement.{statement}
-use Rattle.trace.proofs.say.floats.Tie as tie
+use Rattle.trace.proofs.numbers.Statement.{statement}
+use Rattle.trace.proofs.numbers.Tie as tie
 
 abbrev Inv-loop : tie.InvT-loop
 Inv-loop out₀ at name w n₀ i₀ out n i = i ≤ length w
@@ -16,20 +16,17 @@ text-requires c κs = search needs
 loop-holds : tie.Need-loop-holds Inv-loop μ-loop
 loop-holds c = search needs
 
-mul-bits : tie.Need-mul-bits Inv-loop μ-loop
-mul-bits c = search needs
+mul-wide-word : tie.Need-mul-wide-word Inv-loop μ-loop
+mul-wide-word c = search needs
 
-shared-slice-read-bits : tie.Need-shared-slice-read-bits Inv-loop μ-loop
-shared-slice-read-bits c = search needs
+shared-slice-copy-out-wide-word : tie.Need-shared-slice-copy-out-wide-word Inv-loop μ-loop
+shared-slice-copy-out-wide-word c = search needs
 
-bits-requires : tie.Need-bits-requires Inv-loop μ-loop
-bits-requires c κs = search needs
+wide-word-requires : tie.Need-wide-word-requires Inv-loop μ-loop
+wide-word-requires c κs = search needs
 
-wide-bits-requires : tie.Need-wide-bits-requires Inv-loop μ-loop
-wide-bits-requires c κs = search needs
-
-number-requires : tie.Need-number-requires Inv-loop μ-loop
-number-requires c κs = search needs
+signed-requires : tie.Need-signed-requires Inv-loop μ-loop
+signed-requires c κs = search needs
 
 add-i : tie.Need-add-i Inv-loop μ-loop
 add-i c = search needs
@@ -46,19 +43,18 @@ end-requires c κs = search needs
 returns : tie.Need-returns Inv-loop μ-loop
 returns c = search needs
 
-pub floats-spec : {M : Type 1} → statement M
-floats-spec =
+pub numbers-spec : {M : Type 1} → statement M
+numbers-spec =
     tie.close
     (tie.spec
     Inv-loop
     μ-loop
     text-requires
     loop-holds
-    mul-bits
-    shared-slice-read-bits
-    bits-requires
-    wide-bits-requires
-    number-requires
+    mul-wide-word
+    shared-slice-copy-out-wide-word
+    wide-word-requires
+    signed-requires
     add-i
     loop-less
     loop-again

@@ -1,8 +1,8 @@
 use Prim.Native.Nat.{_≤_, _<_, _-_}
 use lib.ListN.{length}
 use borrow.Author.Needs.{needs}
-use Rattle.trace.proofs.say.text.Statement.{statement}
-use Rattle.trace.proofs.say.text.Tie as tie
+use Rattle.trace.proofs.text.Statement.{statement}
+use Rattle.trace.proofs.text.Tie as tie
 
 abbrev Inv-loop : tie.InvT-loop
 Inv-loop out₀ at s n₀ i₀ out n i = i ≤ length s

@@ -1,8 +1,8 @@
 use Prim.Native.Nat.{_≤_, _<_, _-_}
 use lib.ListN.{length}
 use borrow.Author.Needs.{needs}
-use Rattle.trace.proofs.say.numbers.Statement.{statement}
-use Rattle.trace.proofs.say.numbers.Tie as tie
+use Rattle.trace.proofs.long_numbers.Statement.{statement}
+use Rattle.trace.proofs.long_numbers.Tie as tie
 
 abbrev Inv-loop : tie.InvT-loop
 Inv-loop out₀ at name w n₀ i₀ out n i = i ≤ length w
@@ -16,14 +16,14 @@ text-requires c κs = search needs
 loop-holds : tie.Need-loop-holds Inv-loop μ-loop
 loop-holds c = search needs
 
-mul-wide-word : tie.Need-mul-wide-word Inv-loop μ-loop
-mul-wide-word c = search needs
+mul-wide-number : tie.Need-mul-wide-number Inv-loop μ-loop
+mul-wide-number c = search needs
 
-shared-slice-copy-out-wide-word : tie.Need-shared-slice-copy-out-wide-word Inv-loop μ-loop
-shared-slice-copy-out-wide-word c = search needs
+shared-slice-copy-out-wide-number : tie.Need-shared-slice-copy-out-wide-number Inv-loop μ-loop
+shared-slice-copy-out-wide-number c = search needs
 
-wide-word-requires : tie.Need-wide-word-requires Inv-loop μ-loop
-wide-word-requires c κs = search needs
+wide-number-requires : tie.Need-wide-number-requires Inv-loop μ-loop
+wide-number-requires c κs = search needs
 
 signed-requires : tie.Need-signed-requires Inv-loop μ-loop
 signed-requires c κs = search needs
@@ -43,17 +43,17 @@ end-requires c κs = search needs
 returns : tie.Need-returns Inv-loop μ-loop
 returns c = search needs
 
-pub numbers-spec : {M : Type 1} → statement M
-numbers-spec =
+pub long-numbers-spec : {M : Type 1} → statement M
+long-numbers-spec =
     tie.close
     (tie.spec
     Inv-loop
     μ-loop
     text-requires
     loop-holds
-    mul-wide-word
-    shared-slice-copy-out-wide-word
-    wide-word-requires
+    mul-wide-number
+    shared-slice-copy-out-wide-number
+    wide-number-requires
     signed-requires
     add-i
     loop-less

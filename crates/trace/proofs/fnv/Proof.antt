@@ -1,8 +1,8 @@
 use Prim.Native.Nat.{_≤_, _<_, _-_}
 use lib.ListN.{length}
 use borrow.Author.Needs.{needs}
-use Rattle.trace.proofs.say.fnv.Statement.{statement}
-use Rattle.trace.proofs.say.fnv.Tie as tie
+use Rattle.trace.proofs.fnv.Statement.{statement}
+use Rattle.trace.proofs.fnv.Tie as tie
 
 abbrev Inv-loop : tie.InvT-loop
 Inv-loop s h₀ i₀ h i = i ≤ length s

@@ -1,8 +1,8 @@
 use Prim.Native.Nat.{_≤_, _<_, _-_}
 use lib.ListN.{length}
 use borrow.Author.Needs.{needs}
-use Rattle.trace.proofs.say.long_numbers.Statement.{statement}
-use Rattle.trace.proofs.say.long_numbers.Tie as tie
+use Rattle.trace.proofs.floats.Statement.{statement}
+use Rattle.trace.proofs.floats.Tie as tie
 
 abbrev Inv-loop : tie.InvT-loop
 Inv-loop out₀ at name w n₀ i₀ out n i = i ≤ length w
@@ -16,17 +16,20 @@ text-requires c κs = search needs
 loop-holds : tie.Need-loop-holds Inv-loop μ-loop
 loop-holds c = search needs
 
-mul-wide-number : tie.Need-mul-wide-number Inv-loop μ-loop
-mul-wide-number c = search needs
+mul-bits : tie.Need-mul-bits Inv-loop μ-loop
+mul-bits c = search needs
 
-shared-slice-copy-out-wide-number : tie.Need-shared-slice-copy-out-wide-number Inv-loop μ-loop
-shared-slice-copy-out-wide-number c = search needs
+shared-slice-read-bits : tie.Need-shared-slice-read-bits Inv-loop μ-loop
+shared-slice-read-bits c = search needs
 
-wide-number-requires : tie.Need-wide-number-requires Inv-loop μ-loop
-wide-number-requires c κs = search needs
+bits-requires : tie.Need-bits-requires Inv-loop μ-loop
+bits-requires c κs = search needs
 
-signed-requires : tie.Need-signed-requires Inv-loop μ-loop
-signed-requires c κs = search needs
+wide-bits-requires : tie.Need-wide-bits-requires Inv-loop μ-loop
+wide-bits-requires c κs = search needs
+
+number-requires : tie.Need-number-requires Inv-loop μ-loop
+number-requires c κs = search needs
 
 add-i : tie.Need-add-i Inv-loop μ-loop
 add-i c = search needs
@@ -43,18 +46,19 @@ end-requires c κs = search needs
 returns : tie.Need-returns Inv-loop μ-loop
 returns c = search needs
 
-pub long-numbers-spec : {M : Type 1} → statement M
-long-numbers-spec =
+pub floats-spec : {M : Type 1} → statement M
+floats-spec =
     tie.close
     (tie.spec
     Inv-loop
     μ-loop
     text-requires
     loop-holds
-    mul-wide-number
-    shared-slice-copy-out-wide-number
-    wide-number-requires
-    signed-requires
+    mul-bits
+    shared-slice-read-bits
+    bits-requires
+    wide-bits-requires
+    number-requires
     add-i
     loop-less
     loop-again

@@ -1,7 +1,7 @@
 use Rattle.floats.specs.NoNan.{above-no-nan}
 use borrow.Author.Needs.{needs}
-use Rattle.trace.proofs.say.bits.Statement.{statement}
-use Rattle.trace.proofs.say.bits.Tie as tie
+use Rattle.trace.proofs.bits.Statement.{statement}
+use Rattle.trace.proofs.bits.Tie as tie
 
 float-to-bits-result : tie.Need-float-to-bits-result
 float-to-bits-result c = above-no-nan (c .before .args .x) (c .before .args .x) (c .if1 .taken)

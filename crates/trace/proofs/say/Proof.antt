@@ -2,8 +2,8 @@ use native.Mathlib.Omega.{arith}
 use mathlib.Core.Path.{sym}
 use lib.Seq.{length-take-le}
 use borrow.Author.Needs.{needs}
-use Rattle.trace.proofs.say.say.Statement.{statement}
-use Rattle.trace.proofs.say.say.Tie as tie
+use Rattle.trace.proofs.say.Statement.{statement}
+use Rattle.trace.proofs.say.Tie as tie
 
 returns : tie.Need-returns
 returns c = search needs
