@@ -1,8 +1,8 @@
 -- The Rust's decoder with its full state, beside ours, call by call. Whatever stands in the places that our state leaves out (160 of the 314 excitation samples,
 -- `sharpen_voiced`, `previous_lag`), an accepted frame is answered alike, and the decoder after it has our next state's parts again.
-use Prim.Native.Nat.{ℕ}
-use mathlib.Core.Path.{_≡_, refl, _∙_}
-use mathlib.Core.List.{List}
+use Prim.Native.Nat.{ℕ, zero, suc}
+use mathlib.Core.Path.{_≡_, refl, ap, _∙_}
+use mathlib.Core.List.{List, [], _∷_, _++_}
 use native.Mathlib.Omega.{arith}
 use lib.IntN.{ℤ}
 use lib.ListN.{length, length-append}
@@ -19,6 +19,7 @@ use Rattle.celp.specs.declared.State.{State}
 use Rattle.celp.specs.State.{marked, lspMean, initial, missedFrame}
 use Rattle.celp.specs.Celp.{refusal, carried, next, decoded, accepted, answer, decode, written, samples}
 use Rattle.celp.specs.Cases.{refused-state}
+use Rattle.celp.specs.Run.{Event, heard, missed, step, run}
 
 -- a full decoder has the parts of our state
 pub record Carries (n : Native) (s : State) : Type 0 where
@@ -57,8 +58,19 @@ module _ (words : List ℤ) (bytes : List ℕ) where
     pub next : Carries (Full.decode words bytes n (fieldsOf payload) .native) (decode words bytes s payload (length old) .state)
     pub lags : Full.decode words bytes n (fieldsOf payload) .native .core .«previous_lag» ≡ Full.decode words bytes n (fieldsOf payload) .native .core .«last_half_lag»
 
+  accepted-carries : (n : Native) (s : State) (payload : List ℕ) (room : ℕ) → Carries n s → refusal words bytes s payload room ≡ 0 → Carries (Full.decode words bytes n (fieldsOf payload) .native) (decode words bytes s payload room .state)
+  unfolding decode answer accepted decoded next carried
+  accepted-carries n s payload room c z =
+      let i = within-names (fieldsOf payload) (fields-within payload) in
+      let a = frame-same words bytes n (fieldsOf payload) (i .0) (i .1) (c .long) in
+      record {
+        core = rw (a .core, c .core, c .residuals, z);
+        residuals = rw (a .residuals, c .core, c .residuals, z);
+        long = a .long;
+      }
+
   pub accepted-alike : (n : Native) (s : State) (payload : List ℕ) (old : List ℤ) → Carries n s → refusal words bytes s payload (length old) ≡ 0 → Alike n s payload old
-  unfolding decode answer accepted decoded samples written next carried
+  unfolding decode answer accepted decoded samples written
   accepted-alike n s payload old c z =
       let i = within-names (fieldsOf payload) (fields-within payload) in
       let a = frame-same words bytes n (fieldsOf payload) (i .0) (i .1) (c .long) in
@@ -66,11 +78,7 @@ module _ (words : List ℤ) (bytes : List ℕ) where
         pcm = rw (a .samples, c .core, c .residuals, z);
         excitation = rw (a .excitation, c .core, c .residuals, z);
         subframes = rw (a .subframes, c .core, c .residuals, z);
-        next = record {
-          core = rw (a .core, c .core, c .residuals, z);
-          residuals = rw (a .residuals, c .core, c .residuals, z);
-          long = a .long;
-        };
+        next = accepted-carries n s payload (length old) c z;
         lags = a .lags;
       }
 
@@ -85,3 +93,24 @@ module _ (words : List ℤ) (bytes : List ℕ) where
   pub missed-carries : (n : Native) (s : State) → Carries n s → Carries n (missedFrame s .state)
   unfolding missedFrame
   missed-carries n s c = marked-carries n s c
+
+  -- ---- along any sequence of calls: the full decoder is given the frames that ours accepts
+  unfoldable pub fed : ℕ → Native → List ℕ → Native
+  fed zero n payload = Full.decode words bytes n (fieldsOf payload) .native
+  fed (suc k) n payload = n
+
+  unfoldable pub beside : Native → State → List Event → Native
+  beside n s [] = n
+  beside n s (heard payload room ∷ es) = beside (fed (refusal words bytes s payload room) n payload) (step words bytes s (heard payload room)) es
+  beside n s (missed ∷ es) = beside n (step words bytes s missed) es
+
+  heard-carries : (n : Native) (s : State) (payload : List ℕ) (room : ℕ) → Carries n s → (k : ℕ) → refusal words bytes s payload room ≡ k → Carries (fed k n payload) (decode words bytes s payload room .state)
+  unfolding fed
+  heard-carries n s payload room c zero e = accepted-carries n s payload room c e
+  heard-carries n s payload room c (suc k) e = refused-carries n s payload room c (λ z. omega arith)
+
+  pub run-carries : (n : Native) (s : State) (es : List Event) → Carries n s → Carries (beside n s es) (run words bytes s es)
+  unfolding beside run step
+  run-carries n s [] c = c
+  run-carries n s (heard payload room ∷ es) c = run-carries _ _ es (heard-carries n s payload room c (refusal words bytes s payload room) refl)
+  run-carries n s (missed ∷ es) c = run-carries _ _ es (missed-carries n s c)
