@@ -5,13 +5,13 @@ use mathlib.Core.List.{List}
 use mathlib.Core.Path.{_≡_, refl, sym, ap, _∙_}
 use Prim.Native.Nat.{ℕ, zero, suc, _+_, _-_, _*_, _≤_, _<_}
 use lib.Dec.{leb}
-use lib.IntN.{ℤ, pos, natAbs, _+ℤ_, _*ℤ_}
+use lib.IntN.{ℤ, pos, natAbs, _+ℤ_, _*ℤ_, *ℤ-comm}
 use lib.ListN.{length, getD}
 use lib.Signed.{mag}
 use mir.Syntax.{w16, w32}
 use mir.Val.{SFits, toZ, ofZ}
 use mir.ValLaws.{toZ-ofZ}
-use Rattle.sequence.specs.Total.{total, total-more}
+use Rattle.sequence.specs.Total.{total, total-more, total-same}
 use Rattle.fixed.specs.Fixed.{fold, mul}
 use Rattle.fixed.specs.Abs.{abs-add, abs-mul-le}
 use Rattle.fixed.specs.Machine.{sfits-abs, abs-sfits, widened-to}
@@ -22,7 +22,7 @@ abbrev pub term : List ℤ → List ℤ → ℕ → ℤ
 term taps signal k = mul (getD signal k (pos 0)) (getD taps k (pos 0))
 
 unfoldable pub product : List ℤ → List ℤ → ℕ → ℤ
-product taps signal k = getD signal k (pos 0) *ℤ getD taps k (pos 0)
+product taps signal k = getD taps k (pos 0) *ℤ getD signal k (pos 0)
 
 -- the plain sum of the first n
 unfoldable pub products : List ℤ → List ℤ → ℕ → ℤ
@@ -42,7 +42,10 @@ small taps = leb (sizes taps (length taps)) MOST
 -- the plain sum, doubled, comes in as the products do
 pub together : (s : ℤ) (taps signal : List ℤ) (n : ℕ) → 1 ≤ n → fold s (products taps signal n *ℤ pos 2) ≡ total fold s (term taps signal) n
 unfolding products product mul
-together s taps signal n h = ap (fold s) (sym (sum-twice (product taps signal) (pos 0) n)) ∙ sum-together (term taps signal) s n h
+together s taps signal n h =
+    let e : total _+ℤ_ (pos 0) (λ (k : ℕ). product taps signal k *ℤ pos 2) n ≡ total _+ℤ_ (pos 0) (term taps signal) n =
+    total-same _+ℤ_ (pos 0) (λ (k : ℕ). product taps signal k *ℤ pos 2) (term taps signal) n (λ k g. ap (λ (z : ℤ). z *ℤ pos 2) (*ℤ-comm (getD taps k (pos 0)) (getD signal k (pos 0)))) in
+    ap (fold s) (sym (sum-twice (product taps signal) (pos 0) n) ∙ e) ∙ sum-together (term taps signal) s n h
 
 module _ (taps : List ℤ) where
   pub sizes-more : (n : ℕ) → sizes taps (n + 1) ≡ sizes taps n + natAbs (getD taps n (pos 0))
@@ -74,12 +77,12 @@ module _ (taps : List ℤ) where
       summed-back v n h i = ap (toZ w32) (i .is) ∙ toZ-ofZ w32 _ (fits n h (i .le))
 
       -- a turn of the loop, of which the machine reads both factors as 32 bits
-      module _ (v n : ℕ) (h : n < count) (i : Summed v n) (p : mag (getD signal n (pos 0)) < 32768) (q : mag (getD taps n (pos 0)) < 32768) where
+      module _ (v n : ℕ) (h : n < count) (i : Summed v n) (p : mag (getD taps n (pos 0)) < 32768) (q : mag (getD signal n (pos 0)) < 32768) where
         abbrev x : ℤ
-        x = getD signal n (pos 0)
+        x = getD taps n (pos 0)
 
         abbrev y : ℤ
-        y = getD taps n (pos 0)
+        y = getD signal n (pos 0)
 
         x-fits : SFits w16 x
         x-fits = record { sfits = p }
@@ -93,7 +96,7 @@ module _ (taps : List ℤ) where
 
         le-more : natAbs (products taps signal (n + 1)) ≤ 32768 * sizes taps (n + 1)
         le-more =
-            let r : natAbs (x *ℤ y) ≤ 32768 * natAbs y = abs-mul-le x y 32768 (natAbs y) (abs-sfits w16 x x-fits) (omega arith) in
+            let r : natAbs (x *ℤ y) ≤ natAbs x * 32768 = abs-mul-le x y (natAbs x) 32768 (omega arith) (abs-sfits w16 y y-fits) in
             rw (one-more, sizes-more n) (omega (arith, i .le, abs-add (products taps signal n) (x *ℤ y)))
 
         product-fits : SFits w32 (x *ℤ y)

@@ -83,14 +83,14 @@ pub fn small(taps: &[i16]) -> bool
     sum <= 65535
 }
 
-// The plain sum of the products by small taps: in 32 bits, so that eight are made at a time.
+// The plain sum of the products by small taps: in 32 bits, so that eight are made at a time. The taps come first, since the compiler would draw reads in `each`'s order before the choice and make fewer at a time.
 fn plain(taps: &[i16], signal: &[i16]) -> i32
     requires { ⌜ (length (now taps) ≡ length (now signal)) × (Runs.small (now taps) ≡ true) ⌝ }
     ensures { λ r. ⌜ r ≡ Runs.products (now (taps .entry)) (now (signal .entry)) (length (now (signal .entry))) ⌝ }
 {
     let mut sum = 0i32;
     for k in 0..signal.len() {
-        sum += (signal[k] as i32) * (taps[k] as i32);
+        sum += (taps[k] as i32) * (signal[k] as i32);
     }
     sum
 }

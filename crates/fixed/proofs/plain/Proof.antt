@@ -29,7 +29,7 @@ shared-slice-copy-out-sum c = omega arith
 cast-sum : tie.Need-cast-sum Inv-loop μ-loop
 cast-sum c =
     let l = c .before .before in
-    widens-to w32 {w = w16} {z = getD (l .before .args .signal .now) (l .loop .k) (pos 0)} tt (record { sfits = c .sum .given })
+    widens-to w32 {w = w16} {z = getD (l .before .args .taps .now) (l .loop .k) (pos 0)} tt (record { sfits = c .sum .given })
 
 mul-sum-2 : tie.Need-mul-sum-2 Inv-loop μ-loop
 mul-sum-2 c = omega arith
@@ -40,7 +40,7 @@ shared-slice-copy-out-sum-2 c = omega arith
 cast-sum-2 : tie.Need-cast-sum-2 Inv-loop μ-loop
 cast-sum-2 c =
     let l = c .before .before .before in
-    widens-to w32 {w = w16} {z = getD (l .before .args .taps .now) (l .loop .k) (pos 0)} tt (record { sfits = c .sum2 .given })
+    widens-to w32 {w = w16} {z = getD (l .before .args .signal .now) (l .loop .k) (pos 0)} tt (record { sfits = c .sum2 .given })
 
 -- the sizes of as many taps as there are samples
 within : (s : tie.Start Inv-loop μ-loop) → sizes (s .args .taps .now) (length (s .args .signal .now)) ≤ MOST
