@@ -6,6 +6,8 @@
 #include <stdlib.h>
 #include <string.h>
 
+#include "float_bits.h"
+
 unsigned char compare_tables[3908];
 
 extern int16_t gain_decode(const uint8_t *bytes, size_t length, float *history, size_t index, const int16_t *code, int16_t *pitch);
@@ -30,12 +32,6 @@ static float get(int word) {
     float x;
     memcpy(&x, compare_tables + 4 * word, 4);
     return x;
-}
-
-static uint32_t bits(float x) {
-    uint32_t n;
-    memcpy(&n, &x, 4);
-    return n;
 }
 
 // 128 pitch gains, also past both ends of 0..=32,767; 128 log gains and the bias within 16.

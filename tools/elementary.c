@@ -1,19 +1,6 @@
 // docs/ELEMENTARY.md's two sequences, operation by operation, in C: for a machine that the proved archive does not link on. tools/sweep compares
 // them with the proved functions by bits, on every argument. To be compiled with -ffp-contract=off: each operation is rounded once.
-#include <stdint.h>
-#include <string.h>
-
-static uint32_t bits(float x) {
-    uint32_t n;
-    memcpy(&n, &x, 4);
-    return n;
-}
-
-static float from_bits(uint32_t n) {
-    float x;
-    memcpy(&x, &n, 4);
-    return x;
-}
+#include "float_bits.h"
 
 static float high(void) { return from_bits(0x3f317400); }
 static float low(void) { return from_bits(0x37f40417); }

@@ -1,8 +1,8 @@
 // The proved logarithm and exponential against the f64 answer, on every f32 in their ranges, and tools/elementary.c against them.
 #include <math.h>
-#include <stdint.h>
 #include <stdio.h>
-#include <string.h>
+
+#include "float_bits.h"
 
 extern float gain_ln(float x);
 extern float gain_exp(float x);
@@ -10,18 +10,6 @@ extern float steps_ln(float x);
 extern float steps_exp(float x);
 
 static const double limit = 4.0;
-
-static uint32_t bits(float x) {
-    uint32_t n;
-    memcpy(&n, &x, 4);
-    return n;
-}
-
-static float from_bits(uint32_t n) {
-    float x;
-    memcpy(&x, &n, 4);
-    return x;
-}
 
 // How far r is from y, in units of the last place of an f32 as large as y.
 static double error(float r, double y) {

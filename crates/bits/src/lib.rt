@@ -3,7 +3,7 @@ ghost use mathlib.Core.Path.{_≡_};
 ghost use mathlib.Core.List.{map};
 ghost use Prim.Native.Nat.{ℕ, _+_, _*_, _/_, _%_, _^_, _<_, _≤_};
 ghost use lib.Dec.{leb};
-ghost use lib.ListN.{length, getD, take, drop};
+ghost use lib.ListN.{length, getD, take, drop, replicate};
 ghost use Rattle.sequence.specs.Table.{table};
 ghost use Rattle.bits.specs.Bits as Bits;
 
@@ -488,6 +488,40 @@ pub fn unpack(payload: &[u8]) -> Unpacked
     let first = half_params(fields, 0);
     let second = half_params(fields, 12);
     Unpacked::Fields(FrameParams { first, second })
+}
+
+// 24 fields, each 0.
+fn no_fields() -> FrameParams
+    ensures { λ r. ⌜ r ≡ Bits.frameParams (replicate 24 0) ⌝ }
+{
+    let h = HalfParams {
+        gain_low0: 0,
+        gain_low1: 0,
+        code0: 0,
+        code1: 0,
+        gain_high0: 0,
+        gain_high1: 0,
+        mode: 0,
+        stage1: 0,
+        stage2_low: 0,
+        stage2_high: 0,
+        absolute_pitch: 0,
+        relative_pitch: 0,
+    };
+    FrameParams {
+        first: h,
+        second: h,
+    }
+}
+
+// The fields that were read, or where the payload is refused 24 zeros.
+pub fn fields(u: Unpacked) -> FrameParams
+    ensures { λ r. ⌜ r ≡ Bits.fields u ⌝ }
+{
+    match u {
+        Unpacked::Fields(f) => f,
+        Unpacked::Refused(_) => no_fields(),
+    }
 }
 
 // Writes the frame of these fields, once none of them is refused.

@@ -6,11 +6,7 @@ pub mod Mark
 pub mod TwoCalls
 pub mod Accepted
 pub mod StateRule
-pub mod Numbers
-pub mod Lags
-pub mod Sorted
 pub mod Near
 pub mod Receiver
 pub mod Relied
 pub mod WorkedCall
-pub mod FullState

@@ -5,7 +5,7 @@ use mathlib.Core.List.{List}
 use mathlib.Core.Bool.{Bool, true, false, _&&_, cond}
 use lib.Dec.{leb}
 use lib.IntN.{ℤ, pos}
-use lib.Ieee.{ofBits, binary32}
+use lib.Ieee.{Float, ofBits, binary32}
 use lib.ListN.{replicate}
 use Rattle.sequence.specs.All.{all}
 use Rattle.sequence.specs.Table.{table}
@@ -17,21 +17,25 @@ use Rattle.spectral.specs.Spectral as Spectral
 use Rattle.celp.specs.declared.State.{State}
 use Rattle.celp.specs.declared.Returned.{Returned}
 
--- every part 0
-unfoldable pub allZero : State
-allZero =
+-- a state with no sample in it yet
+abbrev pub blank : List ℤ → ℤ → ℤ → List Float → List Float → ℕ → State
+blank lsp sharpenFixed lastHalfLag residuals gains mark =
     record {
-      lsp = replicate 10 (pos 0);
+      lsp = lsp;
       excitation = replicate 154 (pos 0);
       memory = replicate 10 (pos 0);
-      «sharpen_fixed» = pos 0;
-      «last_half_lag» = pos 0;
+      «sharpen_fixed» = sharpenFixed;
+      «last_half_lag» = lastHalfLag;
       fir = replicate 6 (pos 0);
       iir = replicate 6 (pos 0);
-      residuals = replicate 30 (ofBits binary32 0);
-      gains = replicate 4 (ofBits binary32 0);
-      mark = 0;
+      residuals = residuals;
+      gains = gains;
+      mark = mark;
     }
+
+-- every part 0
+unfoldable pub allZero : State
+allZero = blank (replicate 10 (pos 0)) (pos 0) (pos 0) (replicate 30 (ofBits binary32 0)) (replicate 4 (ofBits binary32 0)) 0
 
 -- the same state with another mark
 abbrev pub marked : State → ℕ → State
@@ -64,19 +68,7 @@ lspMean words = table (λ k. word words (LSP-MEAN + k)) 10
 
 -- the state that a decoder starts from: Core::new, and the two histories
 unfoldable pub initial : List ℤ → List ℕ → ℕ → State
-initial words bytes m =
-    record {
-      lsp = lspMean words;
-      excitation = replicate 154 (pos 0);
-      memory = replicate 10 (pos 0);
-      «sharpen_fixed» = pos 3277;
-      «last_half_lag» = pos 60;
-      fir = replicate 6 (pos 0);
-      iir = replicate 6 (pos 0);
-      residuals = Spectral.initial words;
-      gains = Gain.initialHistory bytes;
-      mark = m;
-    }
+initial words bytes m = blank (lspMean words) (pos 3277) (pos 60) (Spectral.initial words) (Gain.initialHistory bytes) m
 
 -- it, or for a refusal number the all-zero state
 unfoldable pub startedBy : ℕ → List ℤ → List ℕ → ℕ → Returned

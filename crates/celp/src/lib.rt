@@ -1,6 +1,6 @@
 // The decoder's calls: reset, cold start, decode, missed frame. A state is handed in and handed back whole.
 ghost use mathlib.Core.Path.{_≡_};
-ghost use lib.ListN.{length, replicate};
+ghost use lib.ListN.{length};
 ghost use Rattle.sequence.specs.All.{all};
 ghost use Rattle.floats.specs.Floats.{within};
 ghost use Rattle.tables.specs.Places.{WORDS, BYTES};
@@ -8,8 +8,6 @@ ghost use Rattle.bits.specs.Bits as Bits;
 ghost use Rattle.celp.specs.Celp as Celp;
 ghost use Rattle.celp.specs.State.{allZero, marked, obeys, lspMean, initial, started, reset, coldStart, missedFrame};
 use bits::FrameParams;
-use bits::HalfParams;
-use bits::Unpacked;
 use core::Core;
 use frame::Decoded;
 use frame::Subframe;
@@ -183,40 +181,6 @@ pub fn missed_frame(state: State) -> Returned
     }
 }
 
-// 24 fields, each 0.
-fn no_fields() -> FrameParams
-    ensures { λ r. ⌜ r ≡ Bits.frameParams (replicate 24 0) ⌝ }
-{
-    let h = HalfParams {
-        gain_low0: 0,
-        gain_low1: 0,
-        code0: 0,
-        code1: 0,
-        gain_high0: 0,
-        gain_high1: 0,
-        mode: 0,
-        stage1: 0,
-        stage2_low: 0,
-        stage2_high: 0,
-        absolute_pitch: 0,
-        relative_pitch: 0,
-    };
-    FrameParams {
-        first: h,
-        second: h,
-    }
-}
-
-// The fields that were read, or where the payload is refused 24 zeros.
-fn fields(u: Unpacked) -> FrameParams
-    ensures { λ r. ⌜ r ≡ Bits.fields u ⌝ }
-{
-    match u {
-        Unpacked::Fields(f) => f,
-        Unpacked::Refused(_) => no_fields(),
-    }
-}
-
 // The refusal number, or 0: all tests, in document 01's order. The fields are the payload's, where it has any.
 fn refusal(
     words: &[i16],
@@ -366,7 +330,7 @@ pub fn decode(
     ensures answer { λ r. ⌜ r ≡ Celp.decode (now (words .entry)) (now (bytes .entry)) state (now (payload .entry)) (length (now (samples .entry))) ⌝ }
     ensures samples { λ _. ⌜ now (samples .exit) ≡ Celp.samples (now (words .entry)) (now (bytes .entry)) state (now (payload .entry)) (now (samples .entry)) ⌝ }
 {
-    let f = fields(bits::unpack(payload));
+    let f = bits::fields(bits::unpack(payload));
     let why = refusal(words, bytes, state, payload, f, samples.len());
     if why != 0 {
         return refused(why, state);

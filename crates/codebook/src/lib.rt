@@ -4,7 +4,7 @@ ghost use mathlib.Core.Bool.{true};
 ghost use Prim.Native.Nat.{_+_, _-_, _≤_, _<_, min};
 ghost use lib.ListN.{length};
 ghost use lib.IntN.{natAbs};
-ghost use Rattle.tables.specs.Places.{FCB-ALT-A, LSF-CB1};
+ghost use Rattle.tables.specs.Places.{FCB-ALT-A, LSF-CB1, WORDS};
 ghost use Rattle.tables.specs.SoundWords.{SoundWords};
 ghost use Rattle.codebook.specs.Codebook as Codebook;
 use tables::FCB_ALT_A;
@@ -88,7 +88,7 @@ fn classify(words: &[i16], index: u16) -> Classified
 
 // x by the radix of digit k, by its inverse.
 fn quotient(words: &[i16], class: usize, k: usize, x: i16) -> i16
-    requires { ⌜ length (now words) ≡ 5963 ⌝ ∗ ⌜ class < 5 ⌝ ∗ ⌜ k < 3 ⌝ }
+    requires { ⌜ length (now words) ≡ WORDS ⌝ ∗ ⌜ class < 5 ⌝ ∗ ⌜ k < 3 ⌝ }
     ensures { λ r. ⌜ r ≡ Codebook.quotient (now (words .entry)) class k x ⌝ }
 {
     let y = word(words, FCB_RADIX_INV + MAX_PULSES * class + k);
@@ -97,7 +97,7 @@ fn quotient(words: &[i16], class: usize, k: usize, x: i16) -> i16
 
 // What that leaves of x.
 fn remainder(words: &[i16], class: usize, k: usize, x: i16) -> i16
-    requires { ⌜ length (now words) ≡ 5963 ⌝ ∗ ⌜ class < 5 ⌝ ∗ ⌜ k < 3 ⌝ }
+    requires { ⌜ length (now words) ≡ WORDS ⌝ ∗ ⌜ class < 5 ⌝ ∗ ⌜ k < 3 ⌝ }
     ensures { λ r. ⌜ r ≡ Codebook.remainder (now (words .entry)) class k x ⌝ }
 {
     let q = quotient(words, class, k, x);
@@ -107,7 +107,7 @@ fn remainder(words: &[i16], class: usize, k: usize, x: i16) -> i16
 
 // How many pulses a class has.
 fn pulses(words: &[i16], class: usize) -> usize
-    requires { ⌜ length (now words) ≡ 5963 ⌝ ∗ ⌜ class < 5 ⌝ }
+    requires { ⌜ length (now words) ≡ WORDS ⌝ ∗ ⌜ class < 5 ⌝ }
     ensures { λ r. ⌜ r ≡ Codebook.pulses (now (words .entry)) class ⌝ }
 {
     unsigned_word(words, FCB_PULSES + class) as usize
@@ -156,7 +156,7 @@ fn span(start: usize) -> usize
 
 // A shape, from place start on, cut at the end.
 fn place_shape(words: &[i16], shape: usize, start: usize, add: bool, code: &mut [i16; SUBFRAME])
-    requires { ⌜ length (now words) ≡ 5963 ⌝ ∗ ⌜ shape < 32 ⌝ }
+    requires { ⌜ length (now words) ≡ WORDS ⌝ ∗ ⌜ shape < 32 ⌝ }
     ensures { λ _. ⌜ now (code .exit) ≡ Codebook.placeShape (now (words .entry)) shape start add (now (code .entry)) ⌝ }
 {
     let end = span(start);

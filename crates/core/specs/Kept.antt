@@ -6,9 +6,10 @@ use mathlib.Core.Bool.{Bool, true, false, cond}
 use mathlib.Core.List.{List}
 use Prim.Native.Nat.{ℕ, _≤_, _<_}
 use lib.Dec.{ltb}
-use lib.IntN.{ℤ, pos, negsuc, natAbs}
+use lib.IntN.{ℤ, pos, negsuc}
 use lib.ListN.{length}
 use borrow.Author.Tests.{ltb-false}
+use Rattle.sequence.specs.Between.{Between}
 use Rattle.fixed.specs.Fixed.{clamp}
 use Rattle.tables.specs.Sound.{SoundBytes}
 use Rattle.bits.specs.declared.HalfParams.{HalfParams}
@@ -27,10 +28,8 @@ use Rattle.core.specs.Core as Spec
 use Rattle.core.specs.Figures.{lags, classes, indexes, left-fixed, left-lag, left-gains, left, pushed}
 
 -- ---- the gain that a subframe leaves
-pub record InGains (z : ℤ) : Type 0 where
-  pub is : z ≡ pos (natAbs z)
-  pub least : 3277 ≤ natAbs z
-  pub most : natAbs z ≤ 13017
+abbrev InGains : ℤ → Type 0
+InGains z = Between 3277 13017 z
 
 pub clamped-range : (z : ℤ) → InGains (Spec.clamped z)
 unfolding Spec.clamped clamp

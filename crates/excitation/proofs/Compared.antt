@@ -14,7 +14,7 @@ use Rattle.fixed.specs.Fixed.{acc, fold, shift}
 use Rattle.fixed.specs.Abs.{abs-mul-le, abs-neg}
 use Rattle.fixed.specs.Integers.{mul-add, neg-mul, mul-mul}
 use Rattle.fixed.specs.Machine.{abs-sfits, sfits-abs}
-use Rattle.fixed.specs.Wrap.{acc-fits}
+use Rattle.fixed.specs.Wrap.{REACH, acc-fits}
 use Rattle.fixed.specs.Sums.{fold-fits}
 use Rattle.fixed.specs.Shifts.{shift-up}
 
@@ -55,7 +55,7 @@ positive (negsuc n) c p = go (suc n * c)
     go (suc m) = refl
 
 -- so x is above y
-pub compared : (a b x y : ℤ) (c : ℕ) → 0 < c → a ≡ x *ℤ pos c → b ≡ y *ℤ pos c → natAbs a + natAbs b < 549755813888 → ltZ (pos 0) (fold a (negℤ b)) ≡ ltZ y x
+pub compared : (a b x y : ℤ) (c : ℕ) → 0 < c → a ≡ x *ℤ pos c → b ≡ y *ℤ pos c → natAbs a + natAbs b < REACH → ltZ (pos 0) (fold a (negℤ b)) ≡ ltZ y x
 compared a b x y c p e f h =
     ap (ltZ (pos 0))
     (fold-fits a (negℤ b) (omega (arith, abs-neg b)) ∙ ap (λ (z : ℤ). z +ℤ negℤ b) e ∙ ap (λ (z : ℤ). x *ℤ pos c +ℤ z) (ap negℤ f ∙ sym (neg-mul y (pos c)))
@@ -74,7 +74,7 @@ module _ (x : ℤ) (m : ℕ) (f : SFits w16 x) where
   minus-fits h = sfits-abs w64 _ (omega (arith, word-le, abs-neg (x *ℤ pos m)))
 
   -- and shifted: at both factors
-  pub word-shift : (s : ℕ) → s < 64 → 32768 * (m * 2 ^ s) < 549755813888 → shift (x *ℤ pos m) (pos s) ≡ x *ℤ pos (m * 2 ^ s)
+  pub word-shift : (s : ℕ) → s < 64 → 32768 * (m * 2 ^ s) < REACH → shift (x *ℤ pos m) (pos s) ≡ x *ℤ pos (m * 2 ^ s)
   word-shift s p h =
       shift-up (x *ℤ pos m) s p ∙ ap (λ (z : ℤ). acc z) (mul-mul x (pos m) (pos (2 ^ s)))
       ∙ acc-fits (x *ℤ pos (m * 2 ^ s)) (omega (arith, abs-mul-le x (pos (m * 2 ^ s)) 32768 (m * 2 ^ s) (abs-sfits w16 x f) (omega arith)))

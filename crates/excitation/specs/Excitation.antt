@@ -1,7 +1,7 @@
 -- The two gains with which an innovation is sharpened: excitation.rs.
 use mathlib.Core.Path.{_≡_, refl}
 use mathlib.Core.Bool.{Bool, true, false, _&&_, cond}
-use lib.IntN.{ℤ, pos, negsuc, _*ℤ_}
+use lib.IntN.{ℤ, pos, _*ℤ_}
 use lib.Signed.{ltZ}
 use Rattle.excitation.specs.declared.InterpolationGains.{InterpolationGains}
 

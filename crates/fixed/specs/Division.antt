@@ -112,26 +112,33 @@ module _ (n d : ℕ) (p : 0 < d) (b : d < 32768) (h : n < d * 65536) where
 pub third : (c : ℕ) → c < 65536 → low (restoringDivide (pos (c + 2)) (pos 3) 16) ≡ pos ((c + 2) / 3)
 third c h = low-divide-16 (c + 2) 3 (omega arith) (omega arith) (omega arith) (omega arith)
 
+-- what the reciprocal divides, 16383 in the high half, and half of it
+abbrev NUMERATOR : ℕ
+NUMERATOR = 1073676288
+
+abbrev pub HALF-NUMERATOR : ℕ
+HALF-NUMERATOR = 536838144
+
 -- the reciprocal's fifteen steps, by a normalised size m: their low 16 bits are 16383 · 2 ^ 15 / m
-pub reciprocal-bits : (m : ℕ) → 16384 ≤ m → m < 32768 → residue 65536 (restoringDivide (pos 1073676288) (pos m) 15) ≡ 536838144 / m
+pub reciprocal-bits : (m : ℕ) → 16384 ≤ m → m < 32768 → residue 65536 (restoringDivide (pos NUMERATOR) (pos m) 15) ≡ HALF-NUMERATOR / m
 unfolding residue
 reciprocal-bits m l h =
     let p : 0 < m = omega arith in
-    let g : 536838144 / m < 32768 = div-lt-iff-lt-mul p .1 (omega arith) in
-    ap (residue 65536) (divide-is 1073676288 m p h (omega arith) 15 (omega arith))
+    let g : HALF-NUMERATOR / m < 32768 = div-lt-iff-lt-mul p .1 (omega arith) in
+    ap (residue 65536) (divide-is NUMERATOR m p h (omega arith) 15 (omega arith))
     ∙ ap (λ (x : ℕ). x % 65536) (halved m p)
-    ∙ below-sixteen (536838144 % m) (536838144 / m)
+    ∙ below-sixteen (HALF-NUMERATOR % m) (HALF-NUMERATOR / m)
     ∙ mod-eq-of-lt (omega arith)
   where
     -- 16383 · 2 ^ 16 by 2 m, of which the remainder is even
-    halved : (m : ℕ) → 0 < m → 1073676288 % (m * 2) * 32768 + 1073676288 / (m * 2) ≡ 536838144 % m * 65536 + 536838144 / m
+    halved : (m : ℕ) → 0 < m → NUMERATOR % (m * 2) * 32768 + NUMERATOR / (m * 2) ≡ HALF-NUMERATOR % m * 65536 + HALF-NUMERATOR / m
     halved m p =
-        let q : ℕ = 536838144 / m in
-        let r : ℕ = 536838144 % m in
-        let e : q * m + r ≡ 536838144 = div-add-mod' 536838144 m in
+        let q : ℕ = HALF-NUMERATOR / m in
+        let r : ℕ = HALF-NUMERATOR % m in
+        let e : q * m + r ≡ HALF-NUMERATOR = div-add-mod' HALF-NUMERATOR m in
         let t : q * (m * 2) ≡ q * m * 2 = sym (mul-assoc q m 2) in
-        let l : r < m = mod-lt 536838144 p in
-        let f : q * (m * 2) + r * 2 ≡ 1073676288 = omega arith in
-        let u : 1073676288 % (m * 2) ≡ r * 2 = ap (λ (x : ℕ). x % (m * 2)) (sym f) ∙ digits-mod q (omega arith) in
-        let v : 1073676288 / (m * 2) ≡ q = ap (λ (x : ℕ). x / (m * 2)) (sym f) ∙ digits-div q (omega arith) in
+        let l : r < m = mod-lt HALF-NUMERATOR p in
+        let f : q * (m * 2) + r * 2 ≡ NUMERATOR = omega arith in
+        let u : NUMERATOR % (m * 2) ≡ r * 2 = ap (λ (x : ℕ). x % (m * 2)) (sym f) ∙ digits-mod q (omega arith) in
+        let v : NUMERATOR / (m * 2) ≡ q = ap (λ (x : ℕ). x / (m * 2)) (sym f) ∙ digits-div q (omega arith) in
         simp (u, v) (omega arith)

@@ -1,6 +1,6 @@
 -- Fixed-point arithmetic on the integers: what each operation of a 16-bit machine with a 40-bit accumulator gives.
 use mathlib.Core.Bool.{cond}
-use Prim.Native.Nat.{ℕ, suc, _+_, _-_, _%_, _^_}
+use Prim.Native.Nat.{ℕ, suc, _+_, _-_, _%_, _^_, _*_}
 use lib.IntN.{ℤ, pos, negsuc, negℤ, natAbs, _+ℤ_, _-ℤ_, _*ℤ_}
 use lib.Dec.{ltb, eqb}
 use lib.Count
@@ -82,7 +82,7 @@ restoringDivide num den n = repeated (λ k x. restoringStep x den) n num
 
 -- 16383 by the high half of n's size, in 15 steps: the quotient's low 16 bits, moved to the high half
 unfoldable pub sizeReciprocal : ℤ → ℤ
-sizeReciprocal n = acc (pos (residue 65536 (restoringDivide (pos 1073676288) (shrZ (sat (pos (natAbs n))) 65536) 15)) *ℤ pos 65536)
+sizeReciprocal n = acc (pos (residue 65536 (restoringDivide (pos (16383 * 65536)) (shrZ (sat (pos (natAbs n))) 65536) 15)) *ℤ pos 65536)
 
 -- value normalised; the reciprocal of that, with value's sign; and the shift that the reciprocal takes
 unfoldable pub normalisedReciprocal : ℤ → Reciprocal

@@ -15,5 +15,3 @@ pub mod Shifts
 pub mod Products
 pub mod Halves
 pub mod Division
-pub mod Normal
-pub mod Plain

@@ -8,7 +8,7 @@ use lib.Arith.{digits-div, mod-mul}
 use lib.Dec.{T, ltb, leb, leb→le}
 use lib.Pow.{pow-pos, pow-add, pow-mono, mod-mod-pow}
 use lib.IntN.{ℤ, pos, negsuc, natAbs, _*ℤ_}
-use lib.Signed.{mag, shrZ, mag-shr, ltZ, nonNeg}
+use lib.Signed.{mag, shrZ, mag-shr}
 use lib.Bits.{bitAnd, and-mask}
 use borrow.Author.Tests.{lt-ltb, le-ltb, ltb-true, ltb-false}
 use mir.Syntax.{Width, w64}
@@ -16,7 +16,7 @@ use mir.Facts.{sfits-widen}
 use mir.Val.{SFits, Fits, toZ, ofZ, sel, bits, hbits}
 use mir.ValLaws.{pow-bits, toZ-ofZ, toZ-pos, sfits-le, toZ-fits, ofZ-toZ, fits-wrap}
 use Rattle.fixed.specs.Fixed.{residue, signed, wrap}
-use Rattle.fixed.specs.Abs.{mag≤abs, abs≤mag, nonneg-is}
+use Rattle.fixed.specs.Abs.{mag≤abs, abs≤mag}
 use Rattle.fixed.specs.Residue.{compl-digits, residue-up, residue-mul, mod-times}
 use Rattle.fixed.specs.Wrap.{residue-lt, wrap-cong, mag-wrap}
 
@@ -49,11 +49,6 @@ widens t f = widens-to w64 t f
 
 pub widened : {w : Width} {z : ℤ} → T (leb (hbits w) 63) → SFits w z → toZ w64 (ofZ w64 (toZ w (ofZ w z))) ≡ z
 widened t f = widened-to w64 t f
-
--- `z as u64` or `z as usize` of a z that was tested not to be negative
-pub unsigned : (w : Width) (z : ℤ) → T (leb (hbits w) 63) → SFits w z → ltZ z (pos 0) ≡ false → T (nonNeg (toZ w (ofZ w z))) × Fits w64 (natAbs (toZ w (ofZ w z)))
-unsigned w z l f t =
-    rw (toZ-ofZ w z f, nonneg-is z t) (tt, record { fits = omega (arith, f .sfits, pow-mono {i = hbits w} {j = 63} (leb→le (hbits w) 63 l)) })
 
 -- ---- the machine
 -- the bits of z, modulo a divisor of 2 ^ 64

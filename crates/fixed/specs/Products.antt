@@ -7,14 +7,14 @@ use native.Mathlib.Nat.{mod-lt}
 use lib.Dec.{ltb}
 use lib.Pow.{mod-pow-add}
 use lib.IntN.{ℤ, pos, negsuc, natAbs, _+ℤ_, _*ℤ_, +ℤ-comm, *ℤ-comm}
-use lib.Signed.{mag, shrZ}
+use lib.Signed.{shrZ}
 use borrow.Author.Tests.{lt-ltb, le-ltb, ltb-true, ltb-false}
 use Rattle.fixed.specs.Fixed.{residue, signed, wrap, fold, acc, low, hi, trunc32, mul, mulUs, mul32x16}
 use Rattle.fixed.specs.Integers.{sub-below, minus-plus, mul-add, mul-mul}
 use Rattle.fixed.specs.Quotients.{shr-add, shr-scale}
 use Rattle.fixed.specs.Abs.{abs-mul-le, abs-shr, abs-shr-by}
 use Rattle.fixed.specs.Residue.{compl-digits}
-use Rattle.fixed.specs.Wrap.{residue-lt, residue-wrap, wrap-id, acc-fits}
+use Rattle.fixed.specs.Wrap.{residue-lt, residue-wrap, acc-fits}
 use Rattle.fixed.specs.Bounds.{abs-hi, abs-trunc32}
 use Rattle.fixed.specs.Sums.{fold-fits}
 
@@ -39,11 +39,6 @@ halves (negsuc n) =
     ap (λ (x : ℕ). signed 4294967296 (4294967296 - suc x)) (mod-pow-add n 16 16)
     ∙ ap (signed 4294967296) (compl-digits 65536 65536 h l (mod-lt _ (omega arith)) (mod-lt n (omega arith)))
     ∙ joined (65536 - suc h) (65536 - suc l) (omega arith) (omega arith)
-
--- of a 32-bit x it is x · y / 2 ^ 15, rounded down
-pub mul32x16-fits : (x y : ℤ) → mag x < 2147483648 → mul32x16 x y ≡ shrZ (x *ℤ y) 32768
-unfolding mul32x16
-mul32x16-fits x y h = ap (λ (z : ℤ). shrZ (z *ℤ y) 32768) (wrap-id 31 x h)
 
 -- and at most 2 ^ 31, which -2 ^ 31 by -2 ^ 15 reaches
 pub abs-mul32x16 : (x y : ℤ) → natAbs y ≤ 32768 → natAbs (mul32x16 x y) ≤ 2147483648

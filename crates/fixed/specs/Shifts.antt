@@ -13,7 +13,7 @@ use borrow.Author.Tests.{ne-eqb}
 use Rattle.fixed.specs.Fixed.{acc, shift, exp}
 use Rattle.fixed.specs.Abs.{mag≤abs}
 use Rattle.fixed.specs.Integers.{sub-is, sub-same, sub-le}
-use Rattle.fixed.specs.Wrap.{mag-wrap}
+use Rattle.fixed.specs.Wrap.{REACH, mag-wrap}
 
 pub shift-up : (v : ℤ) (s : ℕ) → s < 64 → shift v (pos s) ≡ acc (v *ℤ pos (2 ^ s))
 unfolding shift
@@ -24,7 +24,7 @@ unfolding shift
 shift-down v s h = rw (mod-eq-of-lt h)
 
 -- ---- the count of redundant sign bits, less the 8 that 40 bits have more than 32
-pub mag-acc : (v : ℤ) → mag (acc v) < 549755813888
+pub mag-acc : (v : ℤ) → mag (acc v) < REACH
 mag-acc v = omega (arith, mag-wrap 40 v)
 
 -- 2 ^ t is the highest digit of v, or of its complement where v is negative

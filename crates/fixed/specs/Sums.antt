@@ -11,7 +11,7 @@ use Rattle.sequence.specs.Total.{total, total-again, total-same, total-split, t
 use Rattle.fixed.specs.Fixed.{acc, fold}
 use Rattle.fixed.specs.Abs.{abs-add}
 use Rattle.fixed.specs.Integers.{add-swap}
-use Rattle.fixed.specs.Wrap.{wrap-add, wrap-add-right, acc-fits}
+use Rattle.fixed.specs.Wrap.{REACH, wrap-add, wrap-add-right, acc-fits}
 use Rattle.fixed.specs.Machine.{sfits-abs}
 use Rattle.fixed.specs.Bounds.{abs-fold}
 
@@ -39,21 +39,18 @@ sum-first s f n =
     ∙ total-first fold fold-swap s (f 0) (λ (k : ℕ). f (k + 1)) n
 
 -- where the sum fits it is the sum
-pub fold-fits : (s t : ℤ) → natAbs s + natAbs t < 549755813888 → fold s t ≡ s +ℤ t
+pub fold-fits : (s t : ℤ) → natAbs s + natAbs t < REACH → fold s t ≡ s +ℤ t
 unfolding fold
 fold-fits s t h = acc-fits (s +ℤ t) (omega (arith, abs-add s t))
 
 -- a running sum is an accumulator
-pub sum-le : (s : ℤ) (f : ℕ → ℤ) (n : ℕ) → natAbs s ≤ 549755813888 → natAbs (total fold s f n) ≤ 549755813888
-sum-le s f n h = total-keeps fold (λ (x : ℤ). natAbs x ≤ 549755813888) s f (λ x k p. abs-fold x (f k)) h n
+pub sum-le : (s : ℤ) (f : ℕ → ℤ) (n : ℕ) → natAbs s ≤ REACH → natAbs (total fold s f n) ≤ REACH
+sum-le s f n h = total-keeps fold (λ (x : ℤ). natAbs x ≤ REACH) s f (λ x k p. abs-fold x (f k)) h n
 
 -- a local v that holds the bits of a sum
-module _ (s : ℤ) (f : ℕ → ℤ) (n : ℕ) (v : ℕ) (h : natAbs s ≤ 549755813888) (e : v ≡ ofZ w64 (total fold s f n)) where
+module _ (s : ℤ) (f : ℕ → ℤ) (n : ℕ) (v : ℕ) (h : natAbs s ≤ REACH) (e : v ≡ ofZ w64 (total fold s f n)) where
   pub sum-back : toZ w64 v ≡ total fold s f n
   sum-back = ap (toZ w64) e ∙ toZ-ofZ w64 _ (sfits-abs w64 _ (omega (arith, sum-le s f n h)))
-
-  pub sum-bound : natAbs (toZ w64 v) ≤ 549755813888
-  sum-bound = rw sum-back (sum-le s f n h)
 
   -- a turn of the loop: r is the new sum
   pub sum-again : (r : ℤ) → r ≡ fold (toZ w64 v) (f n) → ofZ w64 r ≡ ofZ w64 (total fold s f (n + 1))
@@ -66,7 +63,7 @@ module _ (s : ℤ) (f : ℕ → ℤ) (m : ℕ) (small : (k : ℕ) → natAbs (f 
   plain-le zero = omega arith
   plain-le (suc n) = let d : suc n * m ≡ n * m + m = suc-mul n m in omega (arith, abs-add (total _+ℤ_ s f n) (f n), small n, plain-le n)
 
-  pub sum-fits : (n : ℕ) → natAbs s + n * m < 549755813888 → total fold s f n ≡ total _+ℤ_ s f n
+  pub sum-fits : (n : ℕ) → natAbs s + n * m < REACH → total fold s f n ≡ total _+ℤ_ s f n
   unfolding total
   sum-fits zero h = refl
   sum-fits (suc n) h =

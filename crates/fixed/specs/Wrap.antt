@@ -6,7 +6,7 @@ use Prim.Native.Nat.{ℕ, suc, _+_, _-_, _*_, _%_, _^_, _≤_, _<_}
 use native.Mathlib.Nat.{mod-lt, mod-eq-of-lt, pow-suc, mul-assoc}
 use lib.Dec.{ltb}
 use lib.Pow.{pow-pos, pow-add, mod-mod-pow}
-use lib.IntN.{ℤ, pos, negsuc, negℤ, natAbs, _+ℤ_, _-ℤ_, _*ℤ_, +ℤ-comm}
+use lib.IntN.{ℤ, pos, negsuc, natAbs, _+ℤ_, _*ℤ_, +ℤ-comm}
 use lib.Signed.{mag}
 use borrow.Author.Tests.{lt-ltb, le-ltb, ltb-true, ltb-false}
 use Rattle.fixed.specs.Fixed.{residue, signed, wrap, acc}
@@ -42,9 +42,6 @@ pub wrap-add : (k : ℕ) (a b : ℤ) → wrap k (wrap k a +ℤ b) ≡ wrap k (a 
 wrap-add k a b =
     wrap-cong k (wrap k a +ℤ b) (a +ℤ b)
     (residue-add (2 ^ k) (wrap k a) b (pow-pos k) ∙ ap (λ (x : ℕ). (x + residue (2 ^ k) b) % 2 ^ k) (residue-wrap k a) ∙ sym (residue-add (2 ^ k) a b (pow-pos k)))
-
-pub wrap-sub : (k : ℕ) (a b : ℤ) → wrap k (wrap k a -ℤ b) ≡ wrap k (a -ℤ b)
-wrap-sub k a b = wrap-add k a (negℤ b)
 
 pub wrap-mul : (k m : ℕ) (a : ℤ) → wrap k (wrap k a *ℤ pos m) ≡ wrap k (a *ℤ pos m)
 wrap-mul k m a =
@@ -115,6 +112,10 @@ wrap-id h (negsuc n) p =
 pub wrap-fits : (h : ℕ) (z : ℤ) → natAbs z < 2 ^ h → wrap (suc h) z ≡ z
 wrap-fits h z p = wrap-id h z (omega (arith, mag≤abs z))
 
+-- an accumulator holds the numbers from -REACH to REACH - 1
+abbrev pub REACH : ℕ
+REACH = 549755813888
+
 -- so no sum, difference or product of numbers that are small enough wraps in the accumulator
-pub acc-fits : (z : ℤ) → natAbs z < 549755813888 → acc z ≡ z
+pub acc-fits : (z : ℤ) → natAbs z < REACH → acc z ≡ z
 acc-fits z p = wrap-fits 39 z p

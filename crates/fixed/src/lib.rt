@@ -1,12 +1,17 @@
+// The 16-bit machine with an accumulator of 40 bits: products, shifts, sums that wrap, and the reciprocal.
 ghost use mathlib.Core.Bool.{true};
 ghost use mathlib.Core.Path.{_≡_};
-ghost use Prim.Native.Nat.{ℕ, _≤_, _<_};
-ghost use lib.IntN.{ℤ, pos, natAbs};
+ghost use Prim.Native.Nat.{ℕ, _*_, _≤_, _<_};
+ghost use lib.IntN.{pos, natAbs};
 ghost use lib.ListN.{length, getD};
 ghost use lib.Signed.{mag};
 ghost use Rattle.sequence.specs.Total.{total};
+ghost use Rattle.fixed.specs.Wrap.{REACH};
 ghost use Rattle.fixed.specs.Fixed as Fixed;
 ghost use Rattle.fixed.specs.Runs as Runs;
+
+// What the reciprocal divides: 16383 in the high half.
+const NUMERATOR: i64 = 16383 * 65536;
 
 // v wrapped to 40 bits, as the accumulator holds it.
 pub fn acc(v: i64) -> i64
@@ -166,7 +171,7 @@ pub fn exp(v: i64) -> i32
 
 // One step of a division that takes the divisor away where it can. What it takes away and the quotient's bit are one term, or 0: a choice between two numbers, not between two ways.
 fn restoring_step(num: i64, den: i16) -> i64
-    requires { ⌜ natAbs num ≤ 549755813888 ⌝ }
+    requires { ⌜ natAbs num ≤ REACH ⌝ }
     ensures { λ r. ⌜ r ≡ Fixed.restoringStep num den ⌝ }
 {
     let divisor = (den as i64) * 32768;
@@ -180,7 +185,7 @@ fn restoring_step(num: i64, den: i16) -> i64
 
 // As many steps of the division of an accumulator by den; the quotient's bits come in at the low end.
 pub fn restoring_divide(num: i64, den: i16, steps: u32) -> i64
-    requires { ⌜ natAbs num ≤ 549755813888 ⌝ }
+    requires { ⌜ natAbs num ≤ REACH ⌝ }
     ensures { λ r. ⌜ r ≡ Fixed.restoringDivide num den steps ⌝ }
 {
     let mut n = num;
@@ -192,7 +197,7 @@ pub fn restoring_divide(num: i64, den: i16, steps: u32) -> i64
 
 // The size of an accumulator.
 fn absolute(v: i64) -> i64
-    requires { ⌜ natAbs v ≤ 549755813888 ⌝ }
+    requires { ⌜ natAbs v ≤ REACH ⌝ }
     ensures { λ r. ⌜ r ≡ pos (natAbs v) ⌝ }
 {
     if v < 0 { -v } else { v }
@@ -200,14 +205,14 @@ fn absolute(v: i64) -> i64
 
 // The low 16 bits of 16383 by a size, fifteen steps.
 fn reciprocal_bits(size: i16) -> i64
-    ensures { λ r. ⌜ r ≡ pos (Fixed.residue 65536 (Fixed.restoringDivide (pos 1073676288) size 15)) ⌝ }
+    ensures { λ r. ⌜ r ≡ pos (Fixed.residue 65536 (Fixed.restoringDivide (pos (16383 * 65536)) size 15)) ⌝ }
 {
-    restoring_divide(1073676288, size, 15) & 65535
+    restoring_divide(NUMERATOR, size, 15) & 65535
 }
 
 // 16383 by a normalised number's size, without its sign.
 fn size_reciprocal(n: i64) -> i64
-    requires { ⌜ natAbs n ≤ 549755813888 ⌝ }
+    requires { ⌜ natAbs n ≤ REACH ⌝ }
     ensures { λ r. ⌜ r ≡ Fixed.sizeReciprocal n ⌝ }
 {
     let size = (sat(absolute(n)) >> 16) as i16;

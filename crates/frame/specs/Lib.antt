@@ -2,5 +2,3 @@ pub mod Frame
 pub mod Named
 pub mod Kept
 pub mod Depends
-pub mod Full
-pub mod FullSame

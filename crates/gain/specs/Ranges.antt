@@ -5,13 +5,14 @@ use Prim.Native.Nat.{ℕ, zero, suc, _+_, _*_, _/_, _%_, _^_, _<_, _≤_}
 use native.Mathlib.Nat.{le-refl}
 use native.Mathlib.Omega.{arith}
 use mathlib.Core.Bool.{Bool, true, false, not, cond, false≢true}
-use lib.IntN.{ℤ, pos}
+use lib.IntN.{ℤ}
 use lib.Dec.{T, ltb, lit≤, lit<}
 use lib.ListN.{getD}
 use borrow.Author.Tests.{leb-true}
 use lib.Ieee.{Float, nan, inf, fin, binary32, le, ofBits, toBits, isNan, up, down}
 use lib.Ieee.Scale.{finite}
-use Rattle.floats.specs.Floats.{within, quantise}
+use Rattle.sequence.specs.Between.{Between}
+use Rattle.floats.specs.Floats.{within}
 use Rattle.floats.specs.Within as Floats
 use Rattle.floats.specs.Within.{Within, within→, →within, within-finite, wider}
 use Rattle.floats.specs.NoNan.{above-no-nan}
@@ -139,7 +140,7 @@ module _ (v : List Float) (b : Bounded v) where
 
 -- ---- the gains lie in 0..=32,767
 abbrev pub InRange : ℤ → Type 0
-InRange z = (n : ℕ) × (n ≤ 32767) × (z ≡ pos n)
+InRange z = Between 0 32767 z
 
 code-gain-le : (a : CodeGainArgument) → codeGain a ≤ 32767
 unfolding codeGain
@@ -149,7 +150,7 @@ code-gain-le (Argument.Within x) = quantise-le 32767 (exp x)
 
 pub step-gains : (v : List Float) (e pitch correction bias : Float) → InRange (step v e pitch correction bias .«pitch_gain») × InRange (step v e pitch correction bias .«code_gain»)
 unfolding step
-step-gains v e pitch correction bias = ((quantise 32767 pitch, quantise-le 32767 pitch, refl), (codeGain (argument (add (prediction v e bias) correction)), code-gain-le (argument (add (prediction v e bias) correction)), refl))
+step-gains v e pitch correction bias = (record { is = refl; least = omega arith; most = quantise-le 32767 pitch }, record { is = refl; least = omega arith; most = code-gain-le (argument (add (prediction v e bias) correction)) })
 
 pub decode-gains : (bytes : List ℕ) (v : List Float) (index : ℕ) (code : List ℤ) → InRange (decode bytes v index code .«pitch_gain») × InRange (decode bytes v index code .«code_gain»)
 unfolding decode

@@ -1,7 +1,7 @@
 -- Loops that store numbers byte after byte, and loops that read them.
 use Prim.Native.Nat.{ℕ, zero, suc, _+_, _*_, _/_, _%_, _<_, _≤_}
 use mathlib.Core.Path.{_≡_, refl, sym, ap, _∙_}
-use mathlib.Core.List.{List, [], _∷_, _++_, map, map-append, append-nil}
+use mathlib.Core.List.{List, [], _∷_, _++_, map, map-append}
 use native.Mathlib.Numerals.{add-one}
 use native.Mathlib.Nat.{add-zero}
 use native.Mathlib.Omega.{arith}
@@ -105,9 +105,6 @@ pub record Front (f : List ℕ) (at size : ℕ) (l : List ℕ) : Type 0 where
   pub long : length f ≡ at
   pub room : length l ≡ size
   pub front : take at l ≡ f
-
-pub front-none : (l : List ℕ) → Front [] 0 (length l) l
-front-none l = record { long = refl; room = refl; front = refl }
 
 pub front-more : {f : List ℕ} {at size : ℕ} {l : List ℕ} → Front f at size l → (n : ℕ) (a m : List ℕ) → length a ≡ n → at + n ≤ size → m ≡ sets l at a → Front (f ++ a) (at + n) size m
 front-more {f} {at} {size} {l} w n a m e h q =

@@ -5,11 +5,8 @@ use mathlib.Core.List.{List, [], _∷_, _++_}
 use lib.IntN.{ℤ, pos, negsuc}
 use lib.Ieee.{Float, binary32, ofBits, toBits}
 use lib.ListN.{replicate, take}
-use Rattle.sequence.specs.Table.{table}
-use Rattle.tables.specs.Tables.{word}
-use Rattle.tables.specs.Bare.{bareWords, bareBytes, fromLimit, fromBases, fromPulses, fromSelectors, fromEntries}
 use Rattle.celp.specs.declared.State.{State}
-use Rattle.celp.specs.State.{allZero, initial, lspMean}
+use Rattle.celp.specs.State.{allZero}
 use Rattle.image.specs.Bytes.{bytesOf}
 use Rattle.image.specs.Parts.{Part, bytesOfAll, join}
 use Rattle.image.specs.Image.{SIZE, layout, unsigned, numbers, image}
@@ -54,12 +51,3 @@ begun : (fir iir : List ℤ) (residuals gains : List Float) (m : ℕ)
     ≡ replicate 348 0 ++ (205 ∷ 12 ∷ 60 ∷ 0 ∷ [])
 unfolding image join layout numbers bytesOfAll bytesOf unsigned
 begun fir iir residuals gains m = refl
-
-bare-lsp : lspMean bareWords ≡ replicate 10 (pos 0)
-unfolding lspMean table bareWords fromLimit fromBases fromPulses fromSelectors fromEntries
-bare-lsp = refl
-
--- the bare set's
-bare-begun : (m : ℕ) → take 352 (image (initial bareWords bareBytes m)) ≡ replicate 348 0 ++ (205 ∷ 12 ∷ 60 ∷ 0 ∷ [])
-unfolding initial
-bare-begun m = rw bare-lsp (begun _ _ _ _ m)

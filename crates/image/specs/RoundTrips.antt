@@ -3,15 +3,13 @@
 use Prim.Native.Nat.{ℕ, zero, suc, _+_, _*_, _^_, _<_, _≤_}
 use mathlib.Core.Path.{_≡_, refl, sym, ap, _∙_}
 use mathlib.Core.List.{List, [], _∷_, map}
-use mathlib.Core.Bool.{false}
 use native.Mathlib.Omega.{arith}
-use lib.Ieee.{Float, binary32, nanBits, toBits, ofBits}
+use lib.Ieee.{Float, binary32, toBits, ofBits}
 use lib.IntN.{ℤ}
-use lib.Signed.{mag}
 use lib.ListN.{length, getD, length-map}
 use Rattle.sequence.specs.Table.{table}
 use Rattle.celp.specs.declared.State.{State}
-use Rattle.image.specs.Bytes.{Bytes, numberAt, number-below}
+use Rattle.image.specs.Bytes.{Bytes}
 use Rattle.image.specs.Parts.{Part, part, Below, Fit, join, cut, size, numbersAt, none, more, length-join, join-bytes, cut-join, join-cut, length-numbers, numbers-at, numbers-below}
 use Rattle.image.specs.Image.{SIZE, Whole, Single, layout, unsigned, signed, numbers, ofNumbers, image, state, Held, NoNans}
 use Rattle.image.specs.Signs.{signed-back, unsigned-back, unsigned-below, signed-held, whole-back, whole-below, single-back, single-below, numbers-back, patterns-back, whole-of, single-of}

@@ -1,5 +1,5 @@
 -- Signed numbers and floats as numbers without a sign, one and many.
-use Prim.Native.Nat.{ℕ, zero, suc, _+_, _-_, _*_, _/_, _^_, _<_, _≤_}
+use Prim.Native.Nat.{ℕ, zero, suc, _-_, _*_, _/_, _^_, _<_}
 use mathlib.Core.Path.{_≡_, refl, sym, ap, _∙_, subst}
 use mathlib.Core.List.{List, [], _∷_, map}
 use mathlib.Core.Bool.{Bool, true, false, cond, not}
@@ -8,7 +8,7 @@ use native.Mathlib.Omega.{arith}
 use lib.Dec.{T, ltb}
 use lib.IntN.{ℤ, pos, negsuc}
 use lib.Signed.{mag}
-use lib.Ieee.{Float, nan, binary32, ofBits, toBits, nanBits, isNan, fits}
+use lib.Ieee.{Float, nan, binary32, ofBits, toBits, nanBits}
 use lib.Ieee.Bits.{ofBits-toBits, toBits-ofBits, toBits-lt, ofBits-fits, nanBits-is}
 use lib.ListN.{length, getD, length-map}
 use borrow.Author.Tests.{lt-ltb, le-ltb, ltb-true, ltb-false}

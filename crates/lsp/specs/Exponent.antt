@@ -2,16 +2,16 @@
 use native.Mathlib.Omega.{arith}
 use mathlib.Core.Bool.{Bool, true, false}
 use mathlib.Core.Path.{_≡_, refl, ap, _∙_}
-use Prim.Native.Nat.{ℕ, zero, suc, _-_, _*_, _^_, _≤_, _<_}
+use Prim.Native.Nat.{ℕ, zero, suc, _-_, _*_, _≤_, _<_}
 use native.Mathlib.Nat.{mul-le-mul}
 use lib.Dec.{ltb, eqb, le→leb, leb→le}
 use lib.IntN.{ℤ, pos, negsuc, negℤ, natAbs, subℕ, sucℤ, _+ℤ_, +ℤ-one}
 use lib.Signed.{mag, _≤ℤ_, leZ-yes}
 use borrow.Author.Tests.{ltb-true, ltb-false, eqb-true, eqb-false}
-use Rattle.fixed.specs.Fixed.{acc, fold, mul, shift, exp, wrap, normalisedReciprocal}
+use Rattle.fixed.specs.Fixed.{acc, fold, mul, shift, exp, normalisedReciprocal}
 use Rattle.fixed.specs.Abs.{abs-neg}
 use Rattle.fixed.specs.Integers.{sub-is, sub-above, sub-below}
-use Rattle.fixed.specs.Wrap.{wrap-id, acc-fits}
+use Rattle.fixed.specs.Wrap.{REACH, wrap-id, acc-fits}
 use Rattle.fixed.specs.Sums.{fold-fits}
 use Rattle.fixed.specs.Shifts.{shift-up, exp-at-most, exp-at-least, exp-of-zero}
 use Rattle.lsp.specs.Lsp.{residual, exponent, scale}
@@ -53,7 +53,7 @@ one-more e p q = rw (+ℤ-one e) (go e p q)
     go (negsuc zero) p q = (leZ-yes tt, leZ-yes tt)
     go (negsuc (suc n)) p q = (leZ-yes (le→leb n 3 (omega (arith, leb→le (suc n) 4 (p .le)))), leZ-yes tt)
 
-from-size : (v : ℤ) → natAbs v < 549755813888 → 262144 ≤ mag v → mag v < 68719476736 → Small (exp v +ℤ pos 1)
+from-size : (v : ℤ) → natAbs v < REACH → 262144 ≤ mag v → mag v < 68719476736 → Small (exp v +ℤ pos 1)
 from-size v f p q =
     let e : mag (acc v) ≡ mag v = ap mag (acc-fits v f) in
     one-more (exp v) (exp-at-least v 36 (λ n. omega arith) (omega arith)) (exp-at-most v 18 (omega arith))

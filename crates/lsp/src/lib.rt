@@ -4,6 +4,7 @@ ghost use Prim.Native.Nat.{ℕ, _<_, _≤_};
 ghost use lib.IntN.{pos};
 ghost use lib.Signed.{_≤ℤ_};
 ghost use lib.ListN.{length, getD, set};
+ghost use Rattle.tables.specs.Places.{WORDS};
 ghost use Rattle.fixed.specs.Fixed as Fixed;
 ghost use Rattle.lsp.specs.Lsp as Lsp;
 use fixed::acc;
@@ -35,7 +36,7 @@ fn entry(p: usize) -> usize
 
 // One LSF to its LSP.
 fn cosine(words: &[i16], lsf: i16) -> i16
-    requires { ⌜ length (now words) ≡ 5963 ⌝ ∗ ⌜ pos 0 ≤ℤ lsf ⌝ }
+    requires { ⌜ length (now words) ≡ WORDS ⌝ ∗ ⌜ pos 0 ≤ℤ lsf ⌝ }
     ensures { λ r. ⌜ r ≡ Lsp.cosine (now (words .entry)) lsf ⌝ }
 {
     let p = position(lsf);
@@ -47,7 +48,7 @@ fn cosine(words: &[i16], lsf: i16) -> i16
 
 // LSFs to LSPs, by table lookup with linear interpolation.
 pub fn lsf_to_lsp(words: &[i16], lsf: [i16; 10]) -> [i16; 10]
-    requires { ⌜ length (now words) ≡ 5963 ⌝ ∗ ⌜ ((k : ℕ) → k < 10 → pos 0 ≤ℤ getD lsf k (pos 0)) ⌝ }
+    requires { ⌜ length (now words) ≡ WORDS ⌝ ∗ ⌜ ((k : ℕ) → k < 10 → pos 0 ≤ℤ getD lsf k (pos 0)) ⌝ }
     ensures { λ r. ⌜ r ≡ Lsp.lsfToLsp (now (words .entry)) lsf ⌝ }
 {
     let mut lsp = [0i16; 10];
@@ -86,7 +87,7 @@ fn linear(x: i32, l: i16) -> i32
 }
 
 // The polynomial is symmetric about its coefficient i - 1.
-fn own(f: [i32; 6], i: usize, j: usize) -> i32
+fn own(i: usize, f: [i32; 6], j: usize) -> i32
     requires { ⌜ (2 ≤ j) × (j < 6) ⌝ }
     ensures { λ r. ⌜ r ≡ Lsp.own i f j ⌝ }
 {
@@ -97,7 +98,7 @@ fn own(f: [i32; 6], i: usize, j: usize) -> i32
 }
 
 // Coefficient j of i LSPs by those of the i - 1 before.
-fn coefficient(f: [i32; 6], l: i16, i: usize, j: usize) -> i32
+fn coefficient(l: i16, i: usize, f: [i32; 6], j: usize) -> i32
     requires { ⌜ j < 6 ⌝ }
     ensures { λ r. ⌜ r ≡ Lsp.coefficient l i f j ⌝ }
 {
@@ -110,16 +111,16 @@ fn coefficient(f: [i32; 6], l: i16, i: usize, j: usize) -> i32
     if i < j {
         return f[j];
     }
-    product(own(f, i, j), f[j - 1], f[j - 2], l)
+    product(own(i, f, j), f[j - 1], f[j - 2], l)
 }
 
 // All are made from f's, none from one that is new.
-fn next_polynomial(f: [i32; 6], l: i16, i: usize) -> [i32; 6]
+fn next_polynomial(l: i16, i: usize, f: [i32; 6]) -> [i32; 6]
     ensures { λ r. ⌜ r ≡ Lsp.nextPolynomial l i f ⌝ }
 {
     let mut next = [0i32; 6];
     for j in 0..6 {
-        next[j] = coefficient(f, l, i, j);
+        next[j] = coefficient(l, i, f, j);
     }
     next
 }
@@ -138,7 +139,7 @@ fn lsp_polynomial(lsp: [i16; 10], first: usize) -> [i32; 6]
 {
     let mut f = first_polynomial(lsp[first]);
     for n in 0..4 {
-        let next = next_polynomial(f, negated(lsp[first + 2 * (n + 1)]), n + 2);
+        let next = next_polynomial(negated(lsp[first + 2 * (n + 1)]), n + 2, f);
         f = next;
     }
     f

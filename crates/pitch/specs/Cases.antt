@@ -7,7 +7,7 @@ use lib.ListN.{replicate}
 use Rattle.sequence.specs.Total.{total}
 use Rattle.sequence.specs.Table.{table}
 use Rattle.fixed.specs.Fixed.{residue, signed, wrap, fold, mul, mul32x16, shift}
-use Rattle.pitch.specs.Pitch.{thirds, decodeAbsolute, min, decodeRelative, before, after, interpolatedSample, mixed}
+use Rattle.pitch.specs.Pitch.{thirds, decodeAbsolute, lowest, decodeRelative, before, after, interpolatedSample, mixed}
 
 pub case-1 : decodeAbsolute 0 ≡ record { integer = pos 19; frac = pos 1 }
 unfolding decodeAbsolute thirds
@@ -26,11 +26,11 @@ unfolding decodeAbsolute thirds
 case-4 = refl
 
 pub case-5 : decodeRelative 0 (pos 20) ≡ record { integer = pos 19; frac = pos 1 }
-unfolding decodeRelative min thirds
+unfolding decodeRelative lowest thirds
 case-5 = refl
 
 pub case-6 : decodeRelative 31 (pos 143) ≡ record { integer = pos 144; frac = negsuc 0 }
-unfolding decodeRelative min thirds
+unfolding decodeRelative lowest thirds
 case-6 = refl
 
 -- 1 at the centre and 10 behind it, by taps 0, 1, .. 30, twice: the first side takes the tap of the phase, the second that of 3 less the phase

@@ -2,10 +2,10 @@
 use native.Mathlib.Omega.{arith}
 use mathlib.Core.Path.{_≡_}
 use mathlib.Core.List.{List}
-use Prim.Native.Nat.{ℕ, _+_, _-_, _≤_}
+use Prim.Native.Nat.{ℕ, _-_, _≤_}
 use lib.IntN.{ℤ}
-use lib.ListN.{length, getD, take, length-append, length-drop}
-use Rattle.sequence.specs.Rewritten.{rewritten, length-rewritten, take-rewritten, getD-rewritten-later}
+use lib.ListN.{length, length-append, length-drop}
+use Rattle.sequence.specs.Rewritten.{rewritten, length-rewritten}
 use Rattle.pitch.specs.declared.Lag.{Lag}
 use Rattle.pitch.specs.Pitch.{predict, first, guarded, sharpen}
 
@@ -14,14 +14,6 @@ module _ (taps exc : List ℤ) (start : ℕ) (l : Lag) where
   pub length-predict : length (predict taps exc start l) ≡ length exc
   unfolding predict
   length-predict = length-rewritten _ start exc 80
-
-  pub take-predict : take start (predict taps exc start l) ≡ take start exc
-  unfolding predict
-  take-predict = take-rewritten _ start exc 80
-
-  pub getD-predict-later : (k : ℕ) (d : ℤ) → start + 80 ≤ k → getD (predict taps exc start l) k d ≡ getD exc k d
-  unfolding predict
-  getD-predict-later k d h = getD-rewritten-later _ start exc 80 k d h
 
 -- ---- sharpening: the length, and all of it where the first sharpened sample is past the end
 module _ (taps code : List ℤ) (l : Lag) (gain : ℤ) where

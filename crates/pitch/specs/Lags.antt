@@ -9,7 +9,7 @@ use lib.Signed.{ltZ}
 use borrow.Author.Tests.{ltb-true, ltb-false}
 use Rattle.fixed.specs.Fixed.{residue}
 use Rattle.fixed.specs.Integers.{sub-above}
-use Rattle.pitch.specs.Pitch.{thirds, decodeAbsolute, min, decodeRelative, Sane, InRange, phase, delay}
+use Rattle.pitch.specs.Pitch.{thirds, decodeAbsolute, lowest, decodeRelative, Sane, InRange, phase, delay}
 use Rattle.pitch.specs.declared.Lag.{Lag}
 
 -- ---- a lag of n thirds
@@ -40,9 +40,9 @@ absolute-sane code h = go (ltb code 197) refl
     go true e = record { count = code + 58; is = refl; least = omega arith; most = omega (arith, ltb-true code 197 e) }
     go false e = record { count = 3 * (code - 112); is = refl; least = omega (arith, ltb-false code 197 e); most = omega arith }
 
-pub min-range : (prev : ℤ) → (20 ≤ min prev) × (min prev ≤ 134)
-unfolding min
-min-range prev = go (ltb (natAbs prev - 5) 20) refl
+pub lowest-range : (prev : ℤ) → (20 ≤ lowest prev) × (lowest prev ≤ 134)
+unfolding lowest
+lowest-range prev = go (ltb (natAbs prev - 5) 20) refl
   where
     top : (m : ℕ) → 20 ≤ m → (t : Bool) → ltb 143 (m + 9) ≡ t → (20 ≤ cond t 134 m) × (cond t 134 m ≤ 134)
     top m h true e = (omega arith, omega arith)
@@ -55,8 +55,8 @@ min-range prev = go (ltb (natAbs prev - 5) 20) refl
 pub relative-sane : (code : ℕ) (prev : ℤ) → code < 32 → Sane (decodeRelative code prev)
 unfolding decodeRelative
 relative-sane code prev h =
-    let m = min-range prev in
-    record { count = 3 * min prev + code - 2; is = refl; least = omega arith; most = omega arith }
+    let m = lowest-range prev in
+    record { count = 3 * lowest prev + code - 2; is = refl; least = omega arith; most = omega arith }
 
 -- ---- what such a lag is like
 pub sane-integer : (l : Lag) → Sane l → InRange (l .integer)

@@ -5,4 +5,3 @@ pub mod Kept
 pub mod Reads
 pub mod Buffered
 pub mod Cases
-pub mod Plain

@@ -7,6 +7,7 @@ use lib.Dec.{ltb}
 use lib.ListN.{getD, take, drop, replicate}
 use lib.IntN.{ℤ, pos, negℤ, natAbs, _+ℤ_, _-ℤ_, _*ℤ_}
 use lib.Signed.{ltZ}
+use Rattle.sequence.specs.Between.{Between}
 use Rattle.sequence.specs.Total.{total}
 use Rattle.sequence.specs.Rewritten.{rewritten}
 use Rattle.fixed.specs.Fixed.{residue, acc, fold, sat, hi, mul, mul32x16, shift}
@@ -23,14 +24,14 @@ unfoldable pub decodeAbsolute : ℕ → Lag
 decodeAbsolute code = thirds (cond (ltb code 197) (code + 58) (3 * (code - 112)))
 
 -- where the lags of the relative codes begin: 5 below the lag integer before, at least at 20, and at 134 where 9 more would pass 143
-unfoldable pub min : ℤ → ℕ
-min prev =
+unfoldable pub lowest : ℤ → ℕ
+lowest prev =
     let m : ℕ = cond (ltb (natAbs prev - 5) 20) 20 (natAbs prev - 5) in
     cond (ltb 143 (m + 9)) 134 m
 
 -- a relative code, 0 to 31
 unfoldable pub decodeRelative : ℕ → ℤ → Lag
-decodeRelative code prev = thirds (3 * min prev + code - 2)
+decodeRelative code prev = thirds (3 * lowest prev + code - 2)
 
 -- a lag that a code can give: 58 to 431 thirds, which is from 19 and a third to 144 less a third
 pub record Sane (l : Lag) : Type 0 where
@@ -40,10 +41,8 @@ pub record Sane (l : Lag) : Type 0 where
   pub most : count ≤ 431
 
 -- the integer of such a lag
-pub record InRange (z : ℤ) : Type 0 where
-  pub is : z ≡ pos (natAbs z)
-  pub least : 19 ≤ natAbs z
-  pub most : natAbs z ≤ 144
+abbrev pub InRange : ℤ → Type 0
+InRange z = Between 19 144 z
 
 -- the filter's phase is the negated fraction; where that is negative, a whole sample, three thirds, goes over to the delay
 unfoldable pub phase : Lag → ℕ

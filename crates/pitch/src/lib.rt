@@ -2,7 +2,7 @@
 ghost use mathlib.Core.Path.{_≡_};
 ghost use Prim.Native.Nat.{_+_, _-_, _*_, _/_, _≤_, _<_};
 ghost use lib.ListN.{length};
-ghost use lib.IntN.{ℤ, pos, natAbs, _*ℤ_};
+ghost use lib.IntN.{pos, natAbs, _*ℤ_};
 ghost use Rattle.sequence.specs.Rewritten.{rewritten};
 ghost use Rattle.tables.specs.Places.{WORDS};
 ghost use Rattle.pitch.specs.Pitch as Pitch;
@@ -70,9 +70,9 @@ pub fn decode_absolute(code: u16) -> Lag
 }
 
 // The lag integer at which the relative codes begin.
-fn min(prev: i16) -> i16
+fn lowest(prev: i16) -> i16
     requires { ⌜ Pitch.InRange prev ⌝ }
-    ensures { λ r. ⌜ r ≡ pos (Pitch.min prev) ⌝ }
+    ensures { λ r. ⌜ r ≡ pos (Pitch.lowest prev) ⌝ }
 {
     let m = prev - 5;
     if m < 20 {
@@ -90,7 +90,7 @@ pub fn decode_relative(code: u16, prev: i16) -> Lag
     ensures { λ r. ⌜ r ≡ Pitch.decodeRelative code prev ⌝ }
 {
     let c = code as i16;
-    let m = min(prev);
+    let m = lowest(prev);
     thirds(triple(m) + c - 2, third(code) + m - 1)
 }
 

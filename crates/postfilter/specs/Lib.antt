@@ -1,3 +1,2 @@
 pub mod Postfilter
 pub mod Unscaled
-pub mod Plain

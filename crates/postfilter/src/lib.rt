@@ -3,6 +3,7 @@ ghost use mathlib.Core.Path.{_≡_};
 ghost use Prim.Native.Nat.{_≤_};
 ghost use mathlib.Core.List.{map};
 ghost use lib.ListN.{length};
+ghost use Rattle.tables.specs.Places.{WORDS};
 ghost use Rattle.fixed.specs.Fixed as Fixed;
 ghost use Rattle.postfilter.specs.Postfilter as Postfilter;
 ghost use Rattle.postfilter.specs.Unscaled as Unscaled;
@@ -25,9 +26,9 @@ pub struct OutputFilter {
 }
 
 // The words that both sections multiply by: forward, and back.
-struct Taps {
-    ff: [i16; 4],
-    fb: [i16; 3],
+pub struct Taps {
+    pub ff: [i16; 4],
+    pub fb: [i16; 3],
 }
 
 // What a section gives: its output, and what its feedback delay line takes in.
@@ -47,7 +48,7 @@ const OUT_SCALE: i16 = 19661;
 
 // The words are read once, not at each sample.
 fn taps_of(words: &[i16]) -> Taps
-    requires { ⌜ length (now words) ≡ 5963 ⌝ }
+    requires { ⌜ length (now words) ≡ WORDS ⌝ }
     ensures { λ r. ⌜ r ≡ Postfilter.tapsOf (now (words .entry)) ⌝ }
 {
     Taps {
@@ -157,7 +158,7 @@ fn filter_sample(taps: Taps, filter: OutputFilter, value: i16) -> Step
 
 // Run a block through the two sections, without the scaling.
 fn sections(filter: OutputFilter, words: &[i16], block: &mut [i16]) -> OutputFilter
-    requires { ⌜ length (now words) ≡ 5963 ⌝ }
+    requires { ⌜ length (now words) ≡ WORDS ⌝ }
     ensures outputs { λ _. ⌜ now (block .exit) ≡ Unscaled.outputs (now (words .entry)) filter (now (block .entry)) ⌝ }
     ensures after { λ r. ⌜ r ≡ Postfilter.after (now (words .entry)) filter (now (block .entry)) ⌝ }
 {
@@ -195,7 +196,7 @@ fn scale(block: &mut [i16])
 
 // Run a block through the two sections, and scale what comes of it.
 pub fn run(filter: OutputFilter, words: &[i16], block: &mut [i16]) -> OutputFilter
-    requires { ⌜ length (now words) ≡ 5963 ⌝ }
+    requires { ⌜ length (now words) ≡ WORDS ⌝ }
     ensures outputs { λ _. ⌜ now (block .exit) ≡ Postfilter.outputs (now (words .entry)) filter (now (block .entry)) ⌝ }
     ensures after { λ r. ⌜ r ≡ Postfilter.after (now (words .entry)) filter (now (block .entry)) ⌝ }
 {

@@ -1,8 +1,8 @@
 -- The order as a table of places: a frame's digits are its bits as they are read there, and bits that are put there are all a frame's bits.
 use mathlib.Core.Path.{_≡_, refl, sym, ap, ap₂, _∙_}
-use mathlib.Core.Bool.{Bool, true, not, cond, _&&_}
-use mathlib.Core.List.{List, [], _∷_, _++_, map, map-append, map-map, append-assoc}
-use Prim.Native.Nat.{ℕ, suc, _+_, _-_, _%_, _<_, _≤_}
+use mathlib.Core.Bool.{true, not, cond, _&&_}
+use mathlib.Core.List.{List, _++_, map, map-append, map-map, append-assoc}
+use Prim.Native.Nat.{ℕ, _+_, _-_, _%_, _<_}
 use native.Mathlib.Decide.{decLt}
 use native.Mathlib.Omega.{arith}
 use borrow.Author.Tests.{ltb-true, eqb-true, eqb-false, ne-eqb, not-false}

@@ -1,5 +1,5 @@
 -- bits.rs's `unpack` of 158 bits in receiver order, with mod.rs's two changes to what it gives: these are the fields of the frame that is read.
-use mathlib.Core.Path.{_≡_, refl, sym, ap, _∙_}
+use mathlib.Core.Path.{_≡_, refl, ap, _∙_}
 use mathlib.Core.List.{List, [], _∷_, _++_, map}
 use Prim.Native.Nat.{ℕ, zero, suc, _+_, _*_}
 use lib.Bits.{bitXor}

@@ -1,6 +1,6 @@
 -- A frame as the line of 162 digits that one receiver dumps, and back: post_fec.rs's `receiver_bits`, and the four frame bits that it drops.
 use mathlib.Core.Path.{_≡_, refl}
-use mathlib.Core.Bool.{Bool, true, cond, _&&_}
+use mathlib.Core.Bool.{Bool, cond, _&&_}
 use mathlib.Core.List.{List, [], _∷_, _++_, map}
 use Prim.Native.Nat.{ℕ, zero, suc, _+_, _%_}
 use lib.Bits.{bitAnd}

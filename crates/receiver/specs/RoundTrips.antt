@@ -2,14 +2,14 @@
 use mathlib.Core.Path.{_≡_, refl, sym, ap, _∙_}
 use mathlib.Core.Bool.{Bool, true, false, cond, _&&_}
 use mathlib.Core.List.{List, map, map-map, map-id}
-use Prim.Native.Nat.{ℕ, _+_, _%_, _<_, _≤_}
+use Prim.Native.Nat.{ℕ, _+_, _%_, _<_}
 use native.Mathlib.Nat.{mod-lt}
 use native.Mathlib.Omega.{arith}
-use borrow.Author.Tests.{eqb-true, eq-eqb, le-leb, leb-true, ltb-true}
+use borrow.Author.Tests.{eqb-true, le-leb, leb-true, ltb-true}
 use lib.Bits.{bitAnd}
 use lib.Dec.{leb, ltb, eqb, lit<, lit≤}
-use lib.ListN.{length, getD, take, drop, replicate, List·getD-map, length-map}
-use Rattle.sequence.specs.All.{all, all-of, and-left, and-right}
+use lib.ListN.{length, getD, take, drop, replicate, List·getD-map}
+use Rattle.sequence.specs.All.{all, all-of}
 use Rattle.sequence.specs.Table.{table, table-same, length-table}
 use Rattle.bits.specs.Bits as Bits
 use Rattle.bits.specs.Bits.{bitAt, readBit, byteOf, scatter}
@@ -18,7 +18,7 @@ use Rattle.bits.specs.Digits.{Digits}
 use Rattle.bits.specs.Widths.{read-bit-lt}
 use Rattle.bits.specs.Scattered.{scatter-digits}
 use Rattle.bits.specs.RoundTrips.{map-same, zeros-digits}
-use Rattle.receiver.specs.declared.Answer.the-variants.{Accepted, Refused}
+use Rattle.receiver.specs.declared.Answer.the-variants.{Accepted}
 use Rattle.receiver.specs.Receiver.{receiverBits, digits, lineOf, upTo, isLine, order, values, bitsOf, frameOf, answer, writeNumber, write, written, readNumber, read, taken}
 use Rattle.receiver.specs.Order.{position, position-order, order-count, order-below, digits-read, line-walked, table-map, bits-there}
 use Rattle.receiver.specs.Lines.{line-length, line-digit, line-reserved}

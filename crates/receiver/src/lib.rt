@@ -2,10 +2,10 @@
 ghost use mathlib.Core.Path.{_≡_};
 ghost use mathlib.Core.Bool.{true};
 ghost use Prim.Native.Nat.{_+_};
-ghost use lib.ListN.{length, getD, replicate};
+ghost use lib.ListN.{length, getD};
 ghost use Rattle.sequence.specs.All.{all};
 ghost use Rattle.sequence.specs.Table.{table};
-ghost use Rattle.bits.specs.Bits.{readBit, scatter};
+ghost use Rattle.bits.specs.Bits.{readBit};
 ghost use Rattle.receiver.specs.Receiver as Receiver;
 
 // The frame bit of each digit: what `digits_of` and `bits_of` walk.

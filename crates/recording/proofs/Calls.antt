@@ -23,7 +23,7 @@ use Rattle.celp.specs.Celp.{refusal, refused, accepted, answer, decode, samples
 use Rattle.celp.specs.Accepted.{accepted-means}
 use Rattle.celp.specs.Mark.{mark-answered}
 use Rattle.celp.specs.Run.{heard, step}
-use Rattle.recording.specs.Text.{refusedText, frameText}
+use Rattle.hex.specs.Text.{refusedText, frameText}
 use Rattle.recording.specs.Recording.{blank, answerText, text}
 use Rattle.recording.specs.Feed.{called}
 

@@ -1,4 +1,1 @@
 mod Calls
-mod Digits
-mod Stores
-mod Words

@@ -9,34 +9,23 @@ use lib.IntN.{ℤ}
 use lib.ListN.{length, take, drop, length-drop}
 use lib.Seq.{take-all}
 use borrow.Author.Tests.{eq-eqb, ne-eqb}
-use Rattle.stream.specs.Lines.{lines}
-use Rattle.stream.specs.Held.{start, count, zeros, shown, pushText, pushCount, push-text, push-count, push-one, shown-same}
+use Rattle.stream.specs.Held.{zeros, push-text, push-count, push-one, shown-same}
 use Rattle.stream.specs.Machine.{fedAll, writtenAll, Streamed, streamed-most}
 use Rattle.stream.specs.Reads.{Read, inputOf, answers, Took}
 use Rattle.stream.specs.Reads as Reads
-use Rattle.stream.specs.Told.{texts, told, last, Machine, reads-told}
+use Rattle.stream.specs.Told.{told, last, Machine, reads-told}
 use Rattle.celp.specs.declared.State.{State}
 use Rattle.celp.specs.State.{allZero, reset}
 use Rattle.celp.specs.Run.{Event, step}
-use Rattle.recording.specs.declared.Line.{Line}
+use Rattle.hex.specs.declared.Line.{Line}
+use Rattle.hex.specs.Held.{kept, push, heldLine}
 use Rattle.recording.specs.declared.Recorder.{Recorder}
 use Rattle.recording.specs.declared.Said.{Said}
 use Rattle.recording.specs.declared.Fed.{Fed}
 use Rattle.recording.specs.declared.Started.{Started}
-use Rattle.recording.specs.Text.{isFrame, tablesRefusedText}
-use Rattle.recording.specs.File as File
+use Rattle.hex.specs.Text.{isFrame, tablesRefusedText}
+use Rattle.hex.specs.File as File
 use Rattle.recording.specs.Recording.{event, text, lineStep, lineText, transcript, output, program}
-
--- ---- what is held of a line: its first 40 bytes, and how many it has, counted to 41
-unfoldable pub kept : List ℕ → Line
-kept line = record { text = start 40 line; n = count 40 line }
-
-unfoldable pub push : Line → ℕ → Line
-push l b = record { text = pushText 40 (l .text) (l .n) b; n = pushCount 40 (l .n) }
-
--- the line that it tells
-unfoldable pub heldLine : Line → List ℕ
-heldLine l = shown 40 (l .text) (l .n)
 
 -- ---- where a recording stands
 abbrev pub standing : State → Line → Recorder

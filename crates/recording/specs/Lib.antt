@@ -1,4 +1,2 @@
-pub mod Text
-pub mod File
 pub mod Recording
 pub mod Feed

@@ -16,8 +16,8 @@ use Rattle.celp.specs.declared.Answer.{Answer}
 use Rattle.celp.specs.State.{reset}
 use Rattle.celp.specs.Celp as Celp
 use Rattle.celp.specs.Run.{Event, heard, missed, step}
-use Rattle.recording.specs.Text.{digit, isFrame, payload, frameText, refusedText, tablesRefusedText}
-use Rattle.recording.specs.File as File
+use Rattle.hex.specs.Text.{digit, isFrame, payload, frameText, refusedText, tablesRefusedText}
+use Rattle.hex.specs.File as File
 
 -- the call that a line stands for: one that is not 40 hex digits counts as a missed frame
 unfoldable pub event : List ℕ → Event

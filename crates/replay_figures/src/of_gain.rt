@@ -11,6 +11,7 @@ use questions::words;
 ghost use mathlib.Core.Path.{_≡_};
 ghost use Prim.Native.Nat.{_<_};
 ghost use lib.ListN.{length};
+ghost use Rattle.tables.specs.Places.{BYTES};
 
 fn index(x: i64) -> usize
     ensures { λ r. ⌜ r < 128 ⌝ }
@@ -25,7 +26,7 @@ fn history(n: [i64; 128]) -> [f32; 4] {
 }
 
 fn decoded(bytes: &[u8], n: [i64; 128]) -> Decoded
-    requires { ⌜ length (now bytes) ≡ 3908 ⌝ }
+    requires { ⌜ length (now bytes) ≡ BYTES ⌝ }
 {
     let mut code = [0i16; 80];
     words(n, 7, &mut code);
@@ -40,7 +41,7 @@ fn say_decoded(d: Decoded) {
 }
 
 pub fn answer(bytes: &[u8], n: [i64; 128])
-    requires { ⌜ length (now bytes) ≡ 3908 ⌝ }
+    requires { ⌜ length (now bytes) ≡ BYTES ⌝ }
 {
     match n[1] {
         0 => say_decoded(decoded(bytes, n)),

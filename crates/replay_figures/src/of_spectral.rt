@@ -7,6 +7,7 @@ use questions::say_line;
 ghost use mathlib.Core.Path.{_≡_};
 ghost use Prim.Native.Nat.{_+_, _<_, _≤_};
 ghost use lib.ListN.{length};
+ghost use Rattle.tables.specs.Places.{WORDS, BYTES};
 
 fn stage1(x: i64) -> usize
     ensures { λ r. ⌜ r < 128 ⌝ }
@@ -43,13 +44,13 @@ fn thirty(n: [i64; 128], from: usize) -> [f32; 30]
 }
 
 fn residual(words: &[i16], bytes: &[u8], n: [i64; 128]) -> [f32; 10]
-    requires { ⌜ (length (now words) ≡ 5963) × (length (now bytes) ≡ 3908) ⌝ }
+    requires { ⌜ (length (now words) ≡ WORDS) × (length (now bytes) ≡ BYTES) ⌝ }
 {
     spectral::residual(words, bytes, stage1(n[2]), stage2(n[3]), stage2(n[4]))
 }
 
 fn predicted(bytes: &[u8], n: [i64; 128]) -> [f32; 10]
-    requires { ⌜ length (now bytes) ≡ 3908 ⌝ }
+    requires { ⌜ length (now bytes) ≡ BYTES ⌝ }
 {
     let history = thirty(n, 3);
     let residual = ten(n, 33);
@@ -58,13 +59,13 @@ fn predicted(bytes: &[u8], n: [i64; 128]) -> [f32; 10]
 
 // The ten quantised, and their pairs.
 fn paired(words: &[i16], lsf: [f32; 10]) -> [i16; 10]
-    requires { ⌜ length (now words) ≡ 5963 ⌝ }
+    requires { ⌜ length (now words) ≡ WORDS ⌝ }
 {
     lsp::lsf_to_lsp(words, spectral::quantise_lsf(lsf))
 }
 
 pub fn answer(words: &[i16], bytes: &[u8], n: [i64; 128])
-    requires { ⌜ (length (now words) ≡ 5963) × (length (now bytes) ≡ 3908) ⌝ }
+    requires { ⌜ (length (now words) ≡ WORDS) × (length (now bytes) ≡ BYTES) ⌝ }
 {
     match n[1] {
         0 => say_floats(&residual(words, bytes, n)),

@@ -10,12 +10,12 @@ use libc::STDIN_FILENO;
 use questions::Question;
 ghost use mathlib.Core.Path.{_≡_};
 ghost use lib.ListN.{length};
-ghost use Rattle.io.specs.Counts.{Counts};
+ghost use Rattle.tables.specs.Places.{WORDS};
 ghost use Rattle.tables.specs.SoundWords.{SoundWords};
 
 // 3 lsp, 4 pitch, 5 codebook, 6 excitation, 7 postfilter, 8 pitch by the other set's taps
 fn answer(words: &[i16], other: &[i16], q: Question)
-    requires { ⌜ SoundWords (now words) × (length (now other) ≡ 5963) ⌝ }
+    requires { ⌜ SoundWords (now words) × (length (now other) ≡ WORDS) ⌝ }
 {
     let n = q.numbers;
     match n[0] {
@@ -30,7 +30,7 @@ fn answer(words: &[i16], other: &[i16], q: Question)
 }
 
 fn answers(words: &[i16], other: &[i16], s: &[u8])
-    requires { ⌜ SoundWords (now words) × (length (now other) ≡ 5963) ⌝ }
+    requires { ⌜ SoundWords (now words) × (length (now other) ≡ WORDS) ⌝ }
 {
     let mut from = 0;
     while from < s.len() {
@@ -42,7 +42,7 @@ fn answers(words: &[i16], other: &[i16], s: &[u8])
 
 // What is asked on standard input.
 fn asked_all(words: &[i16], other: &[i16])
-    requires { ⌜ SoundWords (now words) × (length (now other) ≡ 5963) ⌝ }
+    requires { ⌜ SoundWords (now words) × (length (now other) ≡ WORDS) ⌝ }
 {
     let mut room = [0u8; 262144];
     let n = io::read_full(STDIN_FILENO, &mut room);
@@ -51,34 +51,23 @@ fn asked_all(words: &[i16], other: &[i16])
 
 // A set that breaks a rule has no answers.
 fn replayed(words: &[i16], bytes: &[u8], other: &[i16])
-    requires { ⌜ length (now other) ≡ 5963 ⌝ }
+    requires { ⌜ length (now other) ≡ WORDS ⌝ }
 {
     if tables::check(words, bytes) == 0 {
         asked_all(words, other);
     }
 }
 
-// The file's bytes at the start of room, and how many: none of a file that is missing.
-fn read_tables(name: &[u8], room: &mut [u8]) -> usize
-    ensures { λ r. ⌜ Counts r (now (room .exit)) ⌝ }
-{
-    let fd = os::open_read(name);
-    if fd < 0 {
-        return 0;
-    }
-    let n = io::read_full(fd, room);
-    libc::close(fd);
-    n
-}
-
 fn main() {
     let mut file = [0u8; 15835];
-    let m = read_tables(b"narrow.bin", &mut file);
+    let narrow = pipe::read_file(b"narrow.bin", &mut file);
+    let m = narrow.n;
     let mut other = [0i16; 5963];
-    if recording::check_file(&file[..m], &mut other) == 0 {
-        let n = read_tables(b"tables.bin", &mut file);
+    if hex::check_file(&file[..m], &mut other) == 0 {
+        let got = pipe::read_file(b"tables.bin", &mut file);
+        let n = got.n;
         let mut words = [0i16; 5963];
-        if recording::check_file(&file[..n], &mut words) == 0 {
+        if hex::check_file(&file[..n], &mut words) == 0 {
             replayed(&words, &file[11926..15834], &other);
         }
     }

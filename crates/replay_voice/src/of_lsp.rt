@@ -5,6 +5,7 @@ ghost use Prim.Native.Nat.{ℕ, _+_, _<_, _≤_};
 ghost use lib.ListN.{length, getD};
 ghost use lib.IntN.{pos};
 ghost use lib.Signed.{_≤ℤ_};
+ghost use Rattle.tables.specs.Places.{WORDS};
 
 // A word, and 0 for one that is negative.
 fn natural(x: i64) -> i16
@@ -40,7 +41,7 @@ fn eleven(n: [i64; 128]) -> [i16; 11] {
 }
 
 pub fn answer(words: &[i16], n: [i64; 128])
-    requires { ⌜ length (now words) ≡ 5963 ⌝ }
+    requires { ⌜ length (now words) ≡ WORDS ⌝ }
 {
     match n[1] {
         0 => say_line(&lsp::lsf_to_lsp(words, frequencies(n))),

@@ -7,6 +7,7 @@ use questions::say_line;
 ghost use mathlib.Core.Path.{_≡_};
 ghost use Prim.Native.Nat.{_<_};
 ghost use lib.ListN.{length};
+ghost use Rattle.tables.specs.Places.{WORDS};
 ghost use Rattle.pitch.specs.Pitch as Pitch;
 
 fn absolute(x: i64) -> u16
@@ -37,7 +38,7 @@ fn say_lag(l: Lag) {
 
 // The last 80 of the samples are rewritten before they are read.
 fn say_prediction(words: &[i16], l: Lag, seed: u64)
-    requires { ⌜ (length (now words) ≡ 5963) × Pitch.Sane l ⌝ }
+    requires { ⌜ (length (now words) ≡ WORDS) × Pitch.Sane l ⌝ }
 {
     let mut exc = [0i16; 234];
     samples(seed, &mut exc);
@@ -46,7 +47,7 @@ fn say_prediction(words: &[i16], l: Lag, seed: u64)
 }
 
 fn say_sharpened(words: &[i16], l: Lag, seed: u64, gain: i16)
-    requires { ⌜ (length (now words) ≡ 5963) × Pitch.Sane l ⌝ }
+    requires { ⌜ (length (now words) ≡ WORDS) × Pitch.Sane l ⌝ }
 {
     let mut code = [0i16; 80];
     samples(seed, &mut code);
@@ -55,7 +56,7 @@ fn say_sharpened(words: &[i16], l: Lag, seed: u64, gain: i16)
 }
 
 pub fn answer(words: &[i16], n: [i64; 128])
-    requires { ⌜ length (now words) ≡ 5963 ⌝ }
+    requires { ⌜ length (now words) ≡ WORDS ⌝ }
 {
     let l = lag(n);
     match n[3] {

@@ -5,10 +5,11 @@ use questions::samples;
 use questions::say_line;
 ghost use mathlib.Core.Path.{_≡_};
 ghost use lib.ListN.{length};
+ghost use Rattle.tables.specs.Places.{WORDS};
 
 // The zero filter after 24 samples.
 fn begun(words: &[i16], seed: u64) -> OutputFilter
-    requires { ⌜ length (now words) ≡ 5963 ⌝ }
+    requires { ⌜ length (now words) ≡ WORDS ⌝ }
 {
     let mut block = [0i16; 24];
     samples(seed, &mut block);
@@ -20,7 +21,7 @@ fn begun(words: &[i16], seed: u64) -> OutputFilter
 }
 
 pub fn answer(words: &[i16], n: [i64; 128])
-    requires { ⌜ length (now words) ≡ 5963 ⌝ }
+    requires { ⌜ length (now words) ≡ WORDS ⌝ }
 {
     let seed = magnitude(n[1]) % 65536;
     let filter = begun(words, seed + 1000);

@@ -6,3 +6,4 @@ pub mod Mapped
 pub mod First
 pub mod All
 pub mod Lists
+pub mod Between

@@ -1,6 +1,6 @@
 -- The lines of a text: it is cut at each byte 10; what stands after the last is a line too, where it is not empty.
 use Prim.Native.Nat.{ℕ}
-use mathlib.Core.Path.{_≡_, refl, ap}
+use mathlib.Core.Path.{_≡_, refl}
 use mathlib.Core.List.{List, [], _∷_, _++_}
 use mathlib.Core.Bool.{Bool, true, cond, not}
 use lib.Dec.{eqb}

@@ -33,11 +33,6 @@ tail-back room text n at same h e =
     let f = rw (take-all (length room - at) (drop at room) (omega arith)) at e in
     rw (drop-of-length-le (drop at room) {i = length room - at} (omega arith), append-nil, f, same)
 
--- the room's first bytes are the text
-pub over-take : (text room : List ℕ) → take (length text) (over text room) ≡ text
-unfolding over
-over-take text room = take-at text (drop (length text) room) (length text) refl
-
 -- ---- the loop that puts it there, a byte a turn
 pub over-next : (text room : List ℕ) (i : ℕ) → i < length text → length text ≤ length room → set (over (take i text) room) i (getD text i 0) ≡ over (take (i + 1) text) room
 unfolding over

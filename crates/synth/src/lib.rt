@@ -1,3 +1,4 @@
+// The synthesis filter: each sample from the excitation and the ten samples before it.
 ghost use mathlib.Core.Path.{_≡_};
 ghost use Prim.Native.Nat.{ℕ, _≤_, _+_};
 ghost use lib.ListN.{length};

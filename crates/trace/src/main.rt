@@ -4,11 +4,10 @@
 use celp::Answer;
 use celp::State;
 use frame::Subframe;
-use libc::STDIN_FILENO;
+use hex::Line;
 use libc::STDOUT_FILENO;
 use questions::size;
 use questions::wide_word;
-use recording::Line;
 
 fn core_lines(out: &mut [u8; 4096], s: State) -> usize {
     let lsp = s.lsp;
@@ -95,17 +94,15 @@ fn answer_parts(a: Answer, samples: &[i16], digest: bool) {
 
 // A line of the recording is over: the state after it.
 fn heard(words: &[i16], bytes: &[u8], state: State, line: Line, digest: bool) -> State {
-    let text = line.text;
-    if line.n == 40 {
-        if recording::all_digits(text) {
-            let payload = recording::payload(text);
-            let mut samples = [0i16; 320];
-            let a = celp::decode(words, bytes, state, &payload, &mut samples);
-            answer_parts(a, &samples, digest);
-            let next = a.state;
-            state_part(next, digest);
-            return next;
-        }
+    if hex::held_frame(line) {
+        let text = line.text;
+        let payload = hex::payload(text);
+        let mut samples = [0i16; 320];
+        let a = celp::decode(words, bytes, state, &payload, &mut samples);
+        answer_parts(a, &samples, digest);
+        let next = a.state;
+        state_part(next, digest);
+        return next;
     }
     head(b"refused ", 9, digest);
     let missed = celp::missed_frame(state);
@@ -124,15 +121,11 @@ fn put_bytes(file: &[u8; 15835], bytes: &mut [u8; 3908]) {
 
 // The table file's words and bytes, and its number. A byte more than it should have tells one that is too long.
 fn read_tables(name: &[u8], words: &mut [i16; 5963], bytes: &mut [u8; 3908]) -> u8 {
-    let fd = os::open_read(name);
-    if fd < 0 {
-        return 1;
-    }
     let mut file = [0u8; 15835];
-    let n = io::read_full(fd, &mut file);
-    libc::close(fd);
+    let got = pipe::read_file(name, &mut file);
+    let n = got.n;
     put_bytes(&file, bytes);
-    recording::check_file(&file[..n], words)
+    hex::check_file(&file[..n], words)
 }
 
 fn begins(s: &[u8], with: &[u8]) -> bool {
@@ -199,9 +192,9 @@ fn taken(words: &mut [i16; 5963], bytes: &mut [u8; 3908], c: Carried, s: &[u8]) 
             } else {
                 state = heard(words, bytes, state, line, digest);
             }
-            line = recording::empty();
+            line = hex::empty();
         } else {
-            line = recording::push(line, b);
+            line = hex::push(line, b);
         }
     }
     Carried {
@@ -218,18 +211,12 @@ struct Turn {
 
 fn read_some(words: &mut [i16; 5963], bytes: &mut [u8; 3908], c: Carried) -> Turn {
     let mut buf = io::buffer();
-    let got = libc::read(STDIN_FILENO, &mut buf);
-    if got <= 0 {
-        return Turn {
-            carried: c,
-            more: false,
-        };
-    }
-    let n = io::count(got, &buf);
+    let got = pipe::read(&mut buf);
+    let n = got.n;
     let next = taken(words, bytes, c, &buf[..n]);
     Turn {
         carried: next,
-        more: true,
+        more: n > 0,
     }
 }
 
@@ -240,7 +227,7 @@ fn run(words: &mut [i16; 5963], bytes: &mut [u8; 3908]) {
     state_part(first, false);
     let mut c = Carried {
         state: first,
-        line: recording::empty(),
+        line: hex::empty(),
         digest: false,
     };
     let mut turns = u64::MAX;
@@ -336,11 +323,6 @@ fn long_numbers(out: &mut [u8; 4096], at: usize, name: &[u8], w: &[i32]) -> usiz
     end(out, n)
 }
 
-// A float's bits; those of the one NaN where it is one.
-fn bits(x: f32) -> u32 {
-    if x <= x { f32::to_bits(x) } else { 0x7fc0_0000 }
-}
-
 fn wide_bits(n: u32) -> u64 {
     n as u64
 }
@@ -349,7 +331,7 @@ fn floats(out: &mut [u8; 4096], at: usize, name: &[u8], w: &[f32]) -> usize {
     let mut n = text(out, at, name);
     let mut i = 0;
     while i < w.len() {
-        n = number(out, n, wide_bits(bits(w[i])));
+        n = number(out, n, wide_bits(questions::to_bits(w[i])));
         i += 1;
     }
     end(out, n)

@@ -2,13 +2,14 @@
 use borrow.Author.Needs.{needs}
 use native.Mathlib.Omega.{arith}
 use mathlib.Core.Path.{_≡_, sym, _∙_, ap}
-use Prim.Native.Nat.{ℕ, _+_, _-_, _≤_}
+use Prim.Native.Nat.{ℕ, _-_, _≤_}
 use lib.IntN.{ℤ, pos, natAbs}
 use lib.ListN.{length, getD}
 use mir.Syntax.{w16, w64}
 use mir.Val.{toZ, ofZ}
 use mir.ValLaws.{toZ-ofZ}
 use Rattle.sequence.specs.Total.{total}
+use Rattle.fixed.specs.Wrap.{REACH}
 use Rattle.fixed.specs.Fixed as Fixed
 use Rattle.fixed.specs.Bounds.{abs-acc}
 use Rattle.fixed.specs.Machine.{back}
@@ -71,7 +72,7 @@ module _ (l : tie.At-loop Inv-loop μ-loop) where
   first-is : first ≡ Fixed.acc (s .args .sum)
   first-is = back w64 (a .acc .result) (a .acc .ok) ∙ a .acc .ensures ∙ ap (λ (z : ℤ). Fixed.acc z) (toZ-ofZ w64 (s .args .sum) (s .fits .sum))
 
-  first-le : natAbs first ≤ 549755813888
+  first-le : natAbs first ≤ REACH
   first-le = rw first-is (abs-acc (s .args .sum))
 
 product : (c : tie.After-mul Inv-loop μ-loop) → let l = c .before .before .before .before in toZ w64 (ofZ w64 (c .mul .result)) ≡ terms l (l .loop .k)

@@ -11,7 +11,7 @@ use Rattle.fixed.specs.Fixed as Fixed
 use Rattle.fixed.specs.Abs.{abs-mul-le}
 use Rattle.fixed.specs.Machine.{back, widens, widened, sfits-abs, abs-sfits}
 use Rattle.fixed.specs.PlainSums.{sum-acc}
-use Rattle.fixed.specs.Runs.{term, products, together}
+use Rattle.fixed.specs.Runs.{term, together}
 use Rattle.fixed.proofs.fold_products.Statement.{statement}
 use Rattle.fixed.proofs.fold_products.Tie as tie
 

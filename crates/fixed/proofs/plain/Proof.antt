@@ -1,7 +1,7 @@
 -- The local holds the sum of the products so far, which the taps' sizes keep within 32 bits.
 use native.Mathlib.Omega.{arith}
 use mathlib.Core.Path.{_≡_, _∙_, ap}
-use Prim.Native.Nat.{_+_, _-_, _≤_}
+use Prim.Native.Nat.{_-_, _≤_}
 use borrow.Author.Tests.{leb-true}
 use lib.IntN.{pos}
 use lib.ListN.{length, getD}

@@ -8,6 +8,7 @@ use mir.Syntax.{w16, w64}
 use mir.Val.{toZ, ofZ}
 use mir.ValLaws.{toZ-ofZ}
 use Rattle.sequence.specs.Repeated.{repeated}
+use Rattle.fixed.specs.Wrap.{REACH}
 use Rattle.fixed.specs.Fixed as Fixed
 use Rattle.fixed.specs.Machine.{sfits-abs}
 use Rattle.fixed.specs.Bounds.{abs-restoring-divide}
@@ -31,7 +32,7 @@ module _ (c : tie.At-loop Inv-loop μ-loop) where
   den-back : toZ w16 (ofZ w16 (c .before .args .den)) ≡ c .before .args .den
   den-back = toZ-ofZ w16 _ (c .before .fits .den)
 
-  D-le : natAbs D ≤ 549755813888
+  D-le : natAbs D ≤ REACH
   D-le = abs-restoring-divide _ _ (c .loop .k) (c .before .pre)
 
   n-back : toZ w64 (c .loop .n) ≡ D

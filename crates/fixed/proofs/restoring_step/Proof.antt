@@ -10,6 +10,7 @@ use Prim.Native.Nat.{ℕ, _≤_}
 use mir.Syntax.{w16, w64}
 use mir.Val.{SFits, toZ, ofZ}
 use mir.ValLaws.{toZ-ofZ}
+use Rattle.fixed.specs.Wrap.{REACH}
 use Rattle.fixed.specs.Fixed as Fixed
 use Rattle.fixed.specs.Abs.{abs-sub, abs-mul-le}
 use Rattle.fixed.specs.Integers.{mul-add, neg-mul}
@@ -53,7 +54,7 @@ module _ (c : tie.Start) where
   term-fits = sfits-abs w64 _ (omega (arith, twice-le, abs-sub (pos 1) (d *ℤ pos 2)))
 
   num-fits : SFits w64 (num *ℤ pos 2)
-  num-fits = sfits-abs w64 _ (omega (arith, abs-mul-le num (pos 2) 549755813888 2 (c .pre) (omega arith)))
+  num-fits = sfits-abs w64 _ (omega (arith, abs-mul-le num (pos 2) REACH 2 (c .pre) (omega arith)))
 
   den-back : toZ w64 (ofZ w64 (toZ w16 (ofZ w16 den))) ≡ den
   den-back = widened tt (c .fits .den)

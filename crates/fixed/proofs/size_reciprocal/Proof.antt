@@ -1,8 +1,8 @@
 -- What is saturated has 32 bits, so its high half has 16; the rest is one call after the other.
 use borrow.Author.Needs.{needs}
 use native.Mathlib.Omega.{arith}
-use mathlib.Core.Path.{_≡_, refl, _∙_, ap}
-use Prim.Native.Nat.{ℕ, _<_}
+use mathlib.Core.Path.{_≡_, _∙_, ap}
+use Prim.Native.Nat.{ℕ, _<_, _*_}
 use lib.IntN.{ℤ, pos, natAbs, _*ℤ_}
 use lib.Signed.{mag, shrZ}
 use mir.Syntax.{w16, w64}
@@ -54,13 +54,13 @@ reciprocal-bits-requires c κs = search needs
 
 module _ (c : tie.After-reciprocal-bits) where
   abbrev R : ℕ
-  R = Fixed.residue 65536 (Fixed.restoringDivide (pos 1073676288) (shrZ (S (c .before)) 65536) 15)
+  R = Fixed.residue 65536 (Fixed.restoringDivide (pos (16383 * 65536)) (shrZ (S (c .before)) 65536) 15)
 
   R-is : toZ w64 (ofZ w64 (c .reciprocal-bits .result)) ≡ pos R
   R-is = back w64 (c .reciprocal-bits .result) (c .reciprocal-bits .ok) ∙ simp (S-back (c .before), half-back (c .before), toZ-ofZ w16 _ (half-fits (c .before))) at (c .reciprocal-bits .ensures)
 
   P-fits : SFits w64 (pos R *ℤ pos 65536)
-  P-fits = sfits-abs w64 _ (omega (arith, abs-mul-le (pos R) (pos 65536) 65536 65536 (omega (arith, residue-lt 65536 (Fixed.restoringDivide (pos 1073676288) (shrZ (S (c .before)) 65536) 15) (omega arith))) (omega arith)))
+  P-fits = sfits-abs w64 _ (omega (arith, abs-mul-le (pos R) (pos 65536) 65536 65536 (omega (arith, residue-lt 65536 (Fixed.restoringDivide (pos (16383 * 65536)) (shrZ (S (c .before)) 65536) 15) (omega arith))) (omega arith)))
 
 mul-acc : tie.Need-mul-acc
 mul-acc c = simp (R-is c) (P-fits c)
@@ -74,7 +74,7 @@ returns c =
     let d = c .before in
     back w64 (c .acc .result) (c .acc .ok)
     ∙ simp (R-is d, toZ-ofZ w64 _ (P-fits d)) at (c .acc .ensures)
-    ∙ ap (λ (z : ℤ). Fixed.acc (pos (Fixed.residue 65536 (Fixed.restoringDivide (pos 1073676288) (shrZ z 65536) 15)) *ℤ pos 65536)) (S-is (d .before))
+    ∙ ap (λ (z : ℤ). Fixed.acc (pos (Fixed.residue 65536 (Fixed.restoringDivide (pos (16383 * 65536)) (shrZ z 65536) 15)) *ℤ pos 65536)) (S-is (d .before))
 
 pub size-reciprocal-spec : {M : Type 1} → statement M
 size-reciprocal-spec = tie.close (tie.spec absolute-requires sat-requires cast-size reciprocal-bits-requires mul-acc acc-requires returns)

@@ -17,7 +17,7 @@ use Rattle.gain_c.proofs.gain_decode.Tie as tie
 
 read : (z y : ℤ) → z ≡ y → InRange y → toZ w16 (ofZ w16 z) ≡ y
 read z y e g =
-    let h : mag z < 32768 = subst (λ (w : ℤ). mag w < 32768) (sym (e ∙ g .2)) (let l = g .1 in omega arith) in
+    let h : mag z < 32768 = subst (λ (w : ℤ). mag w < 32768) (sym (e ∙ g .is)) (let l = g .most in omega arith) in
     toZ-ofZ w16 z (sfits-of h) ∙ e
 
 decode-requires : tie.Need-decode-requires

@@ -1,6 +1,5 @@
 -- By turn k the first k numbers are stored.
 use Prim.Native.Nat.{_-_}
-use mathlib.Core.Path.{_∙_, refl}
 use lib.ListN.{length}
 use lib.Ieee.{binary32, toBits, nan}
 use Rattle.image.proofs.Loops.{Stored, stored-none, stored-more, stored-end}

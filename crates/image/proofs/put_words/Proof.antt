@@ -1,6 +1,6 @@
 -- By turn k the first k numbers are stored.
 use Prim.Native.Nat.{_-_}
-use mathlib.Core.Path.{_∙_, refl}
+use mathlib.Core.Path.{_∙_}
 use lib.ListN.{length}
 use lib.IntN.{pos}
 use Rattle.image.specs.Image.{unsigned}

@@ -1,6 +1,6 @@
 -- By turn k the first k numbers are read.
 use Prim.Native.Nat.{ℕ, _+_, _-_, _*_, _≤_}
-use mathlib.Core.Path.{_≡_, refl, sym, ap, _∙_}
+use mathlib.Core.Path.{refl, ap, _∙_}
 use lib.ListN.{length}
 use Rattle.sequence.specs.Table.{Written, written-none, written-more, written-end}
 use Rattle.image.specs.Bytes.{numberAt}
@@ -9,7 +9,6 @@ use Rattle.image.proofs.Loops.{read-end, four-bytes}
 use mir.Syntax.{w32}
 use mir.Facts.{toZ-ofZ}
 use borrow.Author.Needs.{sfits-of}
-use native.Mathlib.Omega.{arith}
 use borrow.Author.Needs.{needs}
 use Rattle.image.proofs.read_longs.Statement.{statement}
 use Rattle.image.proofs.read_longs.Tie as tie

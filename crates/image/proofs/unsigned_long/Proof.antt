@@ -9,7 +9,6 @@ use borrow.Author.Needs.{sfits-of}
 use Rattle.image.specs.Image.{unsigned}
 use Rattle.image.proofs.Flipped.{Flipped, flipped, kept, low32}
 use native.Mathlib.Omega.{arith}
-use borrow.Author.Needs.{needs}
 use Rattle.image.proofs.unsigned_long.Statement.{statement}
 use Rattle.image.proofs.unsigned_long.Tie as tie
 

@@ -31,7 +31,7 @@ returns-2 c =
     let k = c .before in
     let s = k .before .before .before in
     simp (ne-eqb _ _ (k .before .before .if1 .left), eq-eqb _ _ (k .before .if2 .taken))
-    (cc (toZ-ofZ w16 _ (s .fits .l), back w32 (getD (s .args .t1) 1 (pos 0)) (k .linear-arg .given), back w32 (c .linear .result) (c .linear .ok)))
+    (cc (toZ-ofZ w16 _ (s .fits .l), back w32 (getD (s .args .t3) 1 (pos 0)) (k .linear-arg .given), back w32 (c .linear .result) (c .linear .ok)))
 
 mul-result : tie.Need-mul-result
 mul-result c = search needs
@@ -76,7 +76,7 @@ returns-4 c =
     let o = b .before .before in
     let k = o .before in
     let s = k .before .before .before in
-    let f = s .args .t1 in
+    let f = s .args .t3 in
     let j = s .args .j in
     let p : c .product .result ≡ Lsp.product (o .own .result) (getD f (j - 1) (pos 0)) (getD f (j - 2) (pos 0)) (s .args .l) = simp (toZ-ofZ w16 _ (s .fits .l), back w32 (o .own .result) (o .own .ok), back w32 (getD f (j - 1) (pos 0)) (b .before .product-arg .given), back w32 (getD f (j - 2) (pos 0)) (b .product-arg2 .given)) at (c .product .ensures) in
     simp (ne-eqb _ _ (k .before .before .if1 .left), ne-eqb _ _ (k .before .if2 .left), le-ltb _ _ (k .if3 .left))

@@ -13,10 +13,10 @@ use Rattle.lsp.proofs.next_polynomial.Statement.{statement}
 use Rattle.lsp.proofs.next_polynomial.Tie as tie
 
 abbrev Inv-loop : tie.InvT-loop
-Inv-loop f l i next₀ j₀ next j = Written (Lsp.coefficient (toZ w16 l) i f) 6 next j
+Inv-loop l i f next₀ j₀ next j = Written (Lsp.coefficient (toZ w16 l) i f) 6 next j
 
 abbrev μ-loop : tie.MeasureT-loop
-μ-loop f l i next₀ j₀ next j = 6 - j
+μ-loop l i f next₀ j₀ next j = 6 - j
 
 loop-holds : tie.Need-loop-holds Inv-loop μ-loop
 unfolding table

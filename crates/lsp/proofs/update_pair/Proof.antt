@@ -1,6 +1,6 @@
 -- Both numbers are read before either is written.
 use borrow.Author.Needs.{needs}
-use mathlib.Core.Path.{_≡_, _∙_}
+use mathlib.Core.Path.{_∙_}
 use lib.IntN.{pos}
 use lib.ListN.{getD}
 use mir.Syntax.{w16, w32}

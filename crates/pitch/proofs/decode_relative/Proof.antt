@@ -9,7 +9,7 @@ use mir.Val.{toZ, ofZ}
 use mir.ValLaws.{toZ-ofZ, toZ-pos}
 use Rattle.fixed.specs.Machine.{back}
 use Rattle.pitch.specs.Pitch as Pitch
-use Rattle.pitch.specs.Lags.{min-range}
+use Rattle.pitch.specs.Lags.{lowest-range}
 use Rattle.pitch.proofs.Naturals.{fits, reads, added, less}
 use Rattle.pitch.proofs.decode_relative.Statement.{statement}
 use Rattle.pitch.proofs.decode_relative.Tie as tie
@@ -17,23 +17,23 @@ use Rattle.pitch.proofs.decode_relative.Tie as tie
 cast-c : tie.Need-cast-c
 cast-c c = search needs
 
-min-requires : tie.Need-min-requires
-min-requires c κs = search needs
+lowest-requires : tie.Need-lowest-requires
+lowest-requires c κs = search needs
 
 module _ (s : tie.Start) where
   abbrev code : ℕ
   code = s .args .code
 
   abbrev m : ℕ
-  m = Pitch.min (s .args .prev)
+  m = Pitch.lowest (s .args .prev)
 
   small : (code < 32) × (20 ≤ m) × (m ≤ 134)
-  small = (s .pre .0, min-range (s .args .prev) .0, min-range (s .args .prev) .1)
+  small = (s .pre .0, lowest-range (s .args .prev) .0, lowest-range (s .args .prev) .1)
 
-m-is : (c : tie.After-min) → toZ w16 (ofZ w16 (c .min .result)) ≡ pos (m (c .before))
+m-is : (c : tie.After-lowest) → toZ w16 (ofZ w16 (c .lowest .result)) ≡ pos (m (c .before))
 m-is c =
     let f = toZ-ofZ w16 _ (c .before .fits .prev) in
-    back w16 (c .min .result) (c .min .ok) ∙ simp f at (c .min .ensures)
+    back w16 (c .lowest .result) (c .lowest .ok) ∙ simp f at (c .lowest .ensures)
 
 triple-requires : tie.Need-triple-requires
 triple-requires c κs = rw (m-is c) (omega (arith, small (c .before)))
@@ -69,13 +69,13 @@ module _ (c : tie.After-third) where
   abbrev b : tie.Start
   b = s (c .before)
 
-  w-is : toZ w16 (ofZ w16 (c .third .result)) +ℤ toZ w16 (ofZ w16 (c .before .before .min .result)) ≡ pos ((code b + 2) / 3 + m b)
+  w-is : toZ w16 (ofZ w16 (c .third .result)) +ℤ toZ w16 (ofZ w16 (c .before .before .lowest .result)) ≡ pos ((code b + 2) / 3 + m b)
   w-is = added (back w16 (c .third .result) (c .third .ok) ∙ c .third .ensures) (m-is (c .before .before))
 
   w-small : (code b + 2) / 3 + m b < 32768
   w-small = omega (arith, small b)
 
-  whole : toZ w16 (ofZ w16 (toZ w16 (ofZ w16 (c .third .result)) +ℤ toZ w16 (ofZ w16 (c .before .before .min .result)))) -ℤ pos 1 ≡ pos ((3 * m b + code b - 2 + 1) / 3)
+  whole : toZ w16 (ofZ w16 (toZ w16 (ofZ w16 (c .third .result)) +ℤ toZ w16 (ofZ w16 (c .before .before .lowest .result)))) -ℤ pos 1 ≡ pos ((3 * m b + code b - 2 + 1) / 3)
   whole = less 1 (reads w-is w-small) (omega (arith, small b)) ∙ ap pos (omega (arith, small b))
 
   whole-small : (3 * m b + code b - 2 + 1) / 3 < 32768
@@ -102,7 +102,7 @@ decode-relative-spec =
     tie.close
     (tie.spec
     cast-c
-    min-requires
+    lowest-requires
     triple-requires
     add-thirds
     sub-thirds

@@ -1,5 +1,5 @@
 -- By turn i the first i floats are written.
-use mathlib.Core.Path.{_≡_, refl, ap, _∙_}
+use mathlib.Core.Path.{refl, ap, _∙_}
 use Prim.Native.Nat.{_-_}
 use lib.Ieee.{binary32, ofBits}
 use lib.ListN.{length}

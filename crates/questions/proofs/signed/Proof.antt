@@ -1,6 +1,6 @@
 -- A number of 63 bits is itself, and so is what 0 has more.
 use native.Mathlib.Omega.{arith}
-use lib.IntN.{ℤ, pos, natAbs, _-ℤ_}
+use lib.IntN.{pos, _-ℤ_}
 use mir.Syntax.{w64}
 use mir.Facts.{toZ-ofZ}
 use mir.ValLaws.{toZ-pos}

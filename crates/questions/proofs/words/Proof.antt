@@ -1,5 +1,5 @@
 -- By turn i the first i words are written.
-use mathlib.Core.Path.{_≡_, refl, ap, _∙_}
+use mathlib.Core.Path.{refl, ap, _∙_}
 use Prim.Native.Nat.{_-_}
 use lib.ListN.{length}
 use mir.Syntax.{w16, w64}

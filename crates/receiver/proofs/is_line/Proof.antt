@@ -1,5 +1,5 @@
 -- By the three tests.
-use mathlib.Core.Path.{_≡_, sym, _∙_}
+use mathlib.Core.Path.{sym, _∙_}
 use borrow.Author.Tests.{eq-eqb, ne-eqb}
 use Rattle.receiver.specs.Receiver.{isLine}
 use borrow.Author.Needs.{needs}

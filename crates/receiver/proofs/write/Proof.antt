@@ -1,5 +1,5 @@
 -- By the two tests; nothing is written before they are passed.
-use mathlib.Core.Path.{_≡_, _∙_}
+use mathlib.Core.Path.{_∙_}
 use denote.Ref.{now}
 use lib.Bits.{bitAnd}
 use lib.ListN.{getD}

@@ -4,8 +4,8 @@ use mathlib.Core.Path.{_≡_, refl, sym, ap, _∙_}
 use native.Mathlib.Omega.{arith}
 use lib.ListN.{length}
 use Rattle.stream.specs.Room.{over-none, over-counts}
-use Rattle.recording.specs.Text.{refusedText, tablesRefusedText}
-use Rattle.recording.specs.File.{checkFile, file-number-small, accepted-long, accepted-words}
+use Rattle.hex.specs.Text.{refusedText, tablesRefusedText}
+use Rattle.hex.specs.File.{checkFile, file-number-small, accepted-long, accepted-words}
 use Rattle.recording.specs.Feed.{started-refused, started-ready, part-bytes}
 use Rattle.recording.proofs.begin.Statement.{statement}
 use Rattle.recording.proofs.begin.Tie as tie

@@ -4,9 +4,10 @@ use mathlib.Core.Path.{refl, sym, _∙_}
 use lib.Dec.{eqb}
 use lib.ListN.{length}
 use Rattle.celp.specs.Run.{step}
-use Rattle.recording.specs.Text.{isDigit, isFrame, refusedText}
+use Rattle.hex.specs.Text.{isDigit, isFrame, refusedText}
 use Rattle.recording.specs.Recording.{event, text, lineStep, lineText}
-use Rattle.recording.specs.Feed.{heldLine, called, said}
+use Rattle.hex.specs.Held.{heldLine}
+use Rattle.recording.specs.Feed.{called, said}
 use Rattle.sequence.specs.All.{all, and-right}
 use native.Mathlib.Omega.{arith}
 use Rattle.recording.proofs.end_line.Statement.{statement}

@@ -4,9 +4,9 @@ use mathlib.Core.Path.{sym, ap, _∙_}
 use mathlib.Core.List.{List}
 use Prim.Native.Nat.{ℕ}
 use Rattle.stream.specs.Room.{over}
-use Rattle.recording.specs.Text.{refusedText}
+use Rattle.hex.specs.Text.{refusedText}
+use Rattle.hex.specs.Lengths.{frame-long}
 use Rattle.recording.proofs.Calls.{number-small, mark-small, text-refused, text-accepted, called-is}
-use Rattle.recording.proofs.Stores.{frame-long}
 use native.Mathlib.Omega.{arith}
 use Rattle.recording.proofs.hear.Statement.{statement}
 use Rattle.recording.proofs.hear.Tie as tie

@@ -1,7 +1,7 @@
 -- One call after the other; the input at bit 16 and the rounding constant have 33 bits.
 use borrow.Author.Needs.{needs}
 use native.Mathlib.Omega.{arith}
-use mathlib.Core.Path.{_≡_, _∙_, ap}
+use mathlib.Core.Path.{_≡_, _∙_}
 use lib.IntN.{ℤ, pos, natAbs, _+ℤ_, _*ℤ_}
 use Prim.Native.Nat.{ℕ, _≤_, _+_}
 use Rattle.sequence.specs.Total.{total}

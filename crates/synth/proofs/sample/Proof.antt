@@ -1,9 +1,8 @@
 -- One call after the other; the last output's term may come in at the end.
 use borrow.Author.Needs.{needs}
-use mathlib.Core.Path.{_≡_, _∙_, ap, sym}
+use mathlib.Core.Path.{_∙_, ap, sym}
 use lib.IntN.{ℤ, pos, _+ℤ_, _*ℤ_}
 use mir.Syntax.{w16, w64}
-use mir.Val.{toZ, ofZ}
 use mir.ValLaws.{toZ-ofZ}
 use Rattle.fixed.specs.Fixed as Fixed
 use Rattle.fixed.specs.Machine.{back}

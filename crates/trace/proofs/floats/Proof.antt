@@ -1,4 +1,4 @@
-use Prim.Native.Nat.{_≤_, _<_, _-_}
+use Prim.Native.Nat.{_≤_, _-_}
 use lib.ListN.{length}
 use borrow.Author.Needs.{needs}
 use Rattle.trace.proofs.floats.Statement.{statement}
@@ -16,14 +16,14 @@ text-requires c κs = search needs
 loop-holds : tie.Need-loop-holds Inv-loop μ-loop
 loop-holds c = search needs
 
-mul-bits : tie.Need-mul-bits Inv-loop μ-loop
-mul-bits c = search needs
+mul-to-bits : tie.Need-mul-to-bits Inv-loop μ-loop
+mul-to-bits c = search needs
 
-shared-slice-read-bits : tie.Need-shared-slice-read-bits Inv-loop μ-loop
-shared-slice-read-bits c = search needs
+shared-slice-read-to-bits : tie.Need-shared-slice-read-to-bits Inv-loop μ-loop
+shared-slice-read-to-bits c = search needs
 
-bits-requires : tie.Need-bits-requires Inv-loop μ-loop
-bits-requires c κs = search needs
+to-bits-requires : tie.Need-to-bits-requires Inv-loop μ-loop
+to-bits-requires c κs = search needs
 
 wide-bits-requires : tie.Need-wide-bits-requires Inv-loop μ-loop
 wide-bits-requires c κs = search needs
@@ -54,9 +54,9 @@ floats-spec =
     μ-loop
     text-requires
     loop-holds
-    mul-bits
-    shared-slice-read-bits
-    bits-requires
+    mul-to-bits
+    shared-slice-read-to-bits
+    to-bits-requires
     wide-bits-requires
     number-requires
     add-i

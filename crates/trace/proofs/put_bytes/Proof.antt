@@ -1,5 +1,4 @@
-use Prim.Native.Nat.{_≤_, _<_, _-_}
-use lib.ListN.{length}
+use Prim.Native.Nat.{_≤_, _-_}
 use borrow.Author.Needs.{needs}
 use Rattle.trace.proofs.put_bytes.Statement.{statement}
 use Rattle.trace.proofs.put_bytes.Tie as tie

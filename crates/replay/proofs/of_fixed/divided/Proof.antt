@@ -1,5 +1,4 @@
 use mir.Syntax.{w64}
-use mathlib.Core.Path.{_∙_}
 use Rattle.fixed.specs.Machine.{back}
 use Rattle.fixed.specs.Bounds.{abs-acc}
 use borrow.Author.Needs.{needs}

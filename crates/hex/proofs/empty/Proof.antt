@@ -1,0 +1,13 @@
+-- Forty zeros, and none counted.
+use mathlib.Core.Path.{refl}
+use Rattle.stream.specs.Held.{start}
+use Rattle.hex.specs.Held.{kept}
+use Rattle.hex.proofs.empty.Statement.{statement}
+use Rattle.hex.proofs.empty.Tie as tie
+
+returns : tie.Need-returns
+unfolding kept start
+returns c = refl
+
+pub empty-spec : {M : Type 1} → statement M
+empty-spec = tie.close (tie.spec returns)
