@@ -1,0 +1,149 @@
+-- Where a line leaves the decoder's state and the tally; and that many lines leave it at their tally.
+use Prim.Native.Nat.{ℕ, zero, suc, _+_, _-_, _*_, _≤_, _<_}
+use mathlib.Core.Path.{_≡_, refl, sym, ap, _∙_}
+use mathlib.Core.List.{List, [], _∷_, _++_, append-assoc, append-nil}
+use mathlib.Core.Bool.{Bool, true, false, cond}
+use native.Mathlib.Omega.{arith}
+use lib.Dec.{eqb, leb}
+use lib.IntN.{ℤ}
+use lib.ListN.{length, take, length-append}
+use lib.Seq.{take-nil}
+use native.Mathlib.Nat.{add-zero, zero-add}
+use borrow.Author.Tests.{leb-true, leb-false}
+use Rattle.frame.specs.Frame as Frame
+use Rattle.celp.specs.declared.State.{State}
+use Rattle.celp.specs.State.{reset}
+use Rattle.celp.specs.Celp as Celp
+use Rattle.celp.specs.Run.{Event, heard, missed, step}
+use Rattle.stream.specs.Told.{after}
+use Rattle.recording.specs.Recording.{event, lineStep}
+use Rattle.tally.specs.declared.Tally.{Tally}
+use Rattle.tally.specs.Figures.{Outcome, subframesOf, tally, LIMIT, full}
+use Rattle.tally.specs.Carried.{withOutcome, ended}
+use Rattle.tally.specs.Added.{subframes-append, tally-more, tally-ended}
+use Rattle.term.specs.declared.Place.{Place}
+use Rattle.term.specs.Term.{isEnd, recordings, answered, outcome, outcomesFrom, outcomesOf, joined, outcomes, tallyOf}
+
+abbrev pub place : State → Tally → Place
+place s t = record { state = s; tally = t }
+
+module _ (words : List ℤ) (bytes : List ℕ) where
+  -- a call, counted
+  unfoldable pub called : State → Tally → Event → Place
+  called s t e = place (step words bytes s e) (withOutcome t (outcome words bytes s e))
+
+  unfoldable pub lineCalled : State → Tally → List ℕ → Place
+  lineCalled s t line = called s t (event line)
+
+  -- the end of a line
+  unfoldable pub lineEnded : State → Tally → List ℕ → Place
+  lineEnded s t line = cond (full t) (place s t) (cond (isEnd line) (place (reset words bytes .state) (ended t)) (lineCalled s t line))
+
+  abbrev pub placed : Place → List ℕ → Place
+  placed p line = lineEnded (p .state) (p .tally) line
+
+  -- one that is full stays as it is
+  pub full-stays : (s : State) (t : Tally) (line : List ℕ) → full t ≡ true → lineEnded s t line ≡ place s t
+  unfolding lineEnded
+  full-stays s t line e = rw e
+
+  -- ---- the outcomes of all lines, one after the other: `=` goes back to reset
+  walk : State → List (List ℕ) → List Outcome
+  walk s [] = []
+  walk s (l ∷ ls) = cond (isEnd l) (walk (reset words bytes .state) ls) (outcome words bytes s (event l) ∷ walk (lineStep words bytes s l) ls)
+
+  walked : (s : State) (ls : List (List ℕ)) → outcomesFrom words bytes s (recordings ls .first) ++ joined words bytes (recordings ls .more) ≡ walk s ls
+  unfolding walk outcomesFrom recordings joined outcomesOf
+  walked s [] = refl
+  walked s (l ∷ ls) = by (isEnd l) refl (walked (reset words bytes .state) ls) (walked (lineStep words bytes s l) ls)
+    where
+      Walked : State → List (List ℕ) → Type 0
+      Walked s ls = outcomesFrom words bytes s (recordings ls .first) ++ joined words bytes (recordings ls .more) ≡ walk s ls
+
+      by : (t : Bool) → isEnd l ≡ t → Walked (reset words bytes .state) ls → Walked (lineStep words bytes s l) ls → Walked s (l ∷ ls)
+      by true e h k = rw e h
+      by false e h k = rw e (ap (λ (os : List Outcome). outcome words bytes s (event l) ∷ os) k)
+
+  all-walked : (ls : List (List ℕ)) → outcomes words bytes ls ≡ walk (reset words bytes .state) ls
+  unfolding outcomes joined outcomesOf
+  all-walked ls = walked (reset words bytes .state) ls
+
+  -- decode answers four subframes, so an outcome has at most as many
+  pub decode-four : (s : State) (payload : List ℕ) (room : ℕ) → length (Celp.decode words bytes s payload room .subframes) ≡ 4
+  unfolding Celp.decode Celp.answer Celp.accepted Celp.refused Celp.decoded Frame.decode Frame.report Frame.subframes
+  decode-four s payload room = by (Celp.refusal words bytes s payload room)
+    where
+      by : (n : ℕ) → length (Celp.answer n words bytes s payload .subframes) ≡ 4
+      by zero = refl
+      by (suc n) = refl
+
+  few : (s : State) (e : Event) → length (outcome words bytes s e .subframes) ≤ 4
+  unfolding outcome answered
+  few s missed = omega arith
+  few s (heard payload room) = by (eqb (Celp.decode words bytes s payload room .number) 0) (decode-four s payload room)
+    where
+      by : (t : Bool) → length (Celp.decode words bytes s payload room .subframes) ≡ 4 → length (cond t (Celp.decode words bytes s payload room .subframes) []) ≤ 4
+      by true h = omega arith
+      by false h = omega arith
+
+  -- ---- THE COUNTS: carried on over any lines, they are those of the list
+  abbrev left : ℕ → List (List ℕ) → List (List ℕ)
+  left n ls = take (LIMIT - n) ls
+
+  abbrev Added : State → ℕ → List Outcome → List (List ℕ) → Type 0
+  Added s n os ls = after (placed) (place s (tally n os)) ls .tally ≡ tally (n + length (left n ls)) (os ++ walk s (left n ls))
+
+  -- what lists keep to by line n
+  pub record Kept (n : ℕ) (os : List Outcome) : Type 0 where
+    pub lines-kept : n ≤ LIMIT
+    pub outcomes-kept : length os ≤ n
+    pub subframes-kept : length (subframesOf os) ≤ 4 * n
+
+  kept-end : {n : ℕ} {os : List Outcome} → Kept n os → n < LIMIT → Kept (n + 1) os
+  kept-end k h = record { lines-kept = omega arith; outcomes-kept = omega (arith, k .outcomes-kept); subframes-kept = omega (arith, k .subframes-kept) }
+
+  kept-more : {n : ℕ} {os : List Outcome} → Kept n os → n < LIMIT → (o : Outcome) → length (o .subframes) ≤ 4 → Kept (n + 1) (os ++ (o ∷ []))
+  unfolding subframesOf
+  kept-more {n} {os} k h o f =
+      let l = length-append os (o ∷ []) in
+      let m = ap length (subframes-append os (o ∷ [])) ∙ length-append (subframesOf os) (o .subframes ++ []) in
+      let e = rw append-nil at m in
+      record { lines-kept = omega arith; outcomes-kept = omega (arith, k .outcomes-kept); subframes-kept = omega (arith, k .subframes-kept) }
+
+  full-at : (n : ℕ) (os : List Outcome) → full (tally n os) ≡ leb LIMIT n
+  unfolding full tally
+  full-at n os = refl
+
+  -- a line more, where it is shown of those that follow it
+  module _ (ls : List (List ℕ)) (then : (s : State) (n : ℕ) (os : List Outcome) → Kept n os → Added s n os ls) (s : State) (n : ℕ) (os : List Outcome) (k : Kept n os) (l : List ℕ) where
+    abbrev o : Outcome
+    o = outcome words bytes s (event l)
+
+    more : (isFull ends : Bool) → full (tally n os) ≡ isFull → isEnd l ≡ ends → after placed (placed (place s (tally n os)) l) ls .tally ≡ tally (n + length (left n (l ∷ ls))) (os ++ walk s (left n (l ∷ ls)))
+    unfolding lineEnded walk lineCalled called lineStep
+    more true ends e f =
+        let z : LIMIT - n ≡ 0 = let p = leb-true LIMIT n (sym (full-at n os) ∙ e) in omega arith in
+        rw (e, then s n os k, z)
+    more false true e f =
+        let p = leb-false LIMIT n (sym (full-at n os) ∙ e) in
+        let z : LIMIT - n ≡ suc (LIMIT - (n + 1)) = omega arith in
+        let r : n + 1 + length (left (n + 1) ls) ≡ n + suc (length (left (n + 1) ls)) = omega arith in
+        rw (e, f, tally-ended n os (omega arith), then (reset words bytes .state) (n + 1) os (kept-end k p), z, f, r)
+    more false false e f =
+        let p = leb-false LIMIT n (sym (full-at n os) ∙ e) in
+        let z : LIMIT - n ≡ suc (LIMIT - (n + 1)) = omega arith in
+        let r : n + 1 + length (left (n + 1) ls) ≡ n + suc (length (left (n + 1) ls)) = omega arith in
+        let q = few s (event l) in
+        rw (e, f, tally-more n os o (omega arith) (omega (arith, k .outcomes-kept)) (omega (arith, k .subframes-kept)), then (step words bytes s (event l)) (n + 1) (os ++ (o ∷ [])) (kept-more k p o q), z, f, r, append-assoc)
+
+  carried : (ls : List (List ℕ)) (s : State) (n : ℕ) (os : List Outcome) → Kept n os → Added s n os ls
+  unfolding after walk
+  carried [] s n os k = rw (take-nil {A = List ℕ} (LIMIT - n), append-nil, add-zero)
+  carried (l ∷ ls) s n os k = more ls (carried ls) s n os k l (full (tally n os)) (isEnd l) refl refl
+
+  -- from an empty tally
+  pub carried-all : (ls : List (List ℕ)) → after placed (place (reset words bytes .state) (tally 0 [])) ls .tally ≡ tallyOf words bytes (take LIMIT ls)
+  unfolding tallyOf subframesOf
+  carried-all ls =
+      let k : Kept 0 [] = record { lines-kept = omega arith; outcomes-kept = omega arith; subframes-kept = omega arith } in
+      carried ls (reset words bytes .state) 0 [] k ∙ rw (all-walked (take LIMIT ls), zero-add (length (take LIMIT ls)))

@@ -1,0 +1,189 @@
+// The term report: many recordings, one after the other, each ended by a line `=`. Each line is counted as it ends, and the report is written at the end.
+ghost use mathlib.Core.Path.{_≡_};
+ghost use Prim.Native.Nat.{_≤_};
+ghost use lib.ListN.{length};
+ghost use Rattle.io.specs.Counts.{Counts};
+ghost use Rattle.stream.specs.Room.{over};
+ghost use Rattle.stream.specs.Machine.{fedAll};
+ghost use Rattle.celp.specs.Run.{heard};
+ghost use Rattle.hex.specs.Held as Held;
+ghost use Rattle.recording.specs.Feed as Recording;
+ghost use Rattle.hex.specs.File as File;
+ghost use Rattle.tally.specs.Figures as Figures;
+ghost use Rattle.term.specs.Term as Term;
+ghost use Rattle.term.specs.Steps as Steps;
+ghost use Rattle.term.specs.Feed as Feed;
+use celp::State;
+use hex::Line;
+use tally::Tally;
+
+// Where the input stands between two lines: the decoder's state, and the tally.
+pub struct Place {
+    pub state: State,
+    pub tally: Tally,
+}
+
+// Where it stands in a line.
+pub struct Recorder {
+    pub state: State,
+    pub line: Line,
+    pub tally: Tally,
+}
+
+// The start: the table file's refusal number, how long its text is, and where the input stands.
+pub struct Started {
+    pub recorder: Recorder,
+    pub number: u8,
+    pub n: usize,
+}
+
+// Whether the line that is held ends a recording.
+fn is_end(line: Line) -> bool
+    ensures { λ r. ⌜ r ≡ Term.isEnd (Held.heldLine line) ⌝ }
+{
+    if line.n != 1 {
+        return false;
+    }
+    let text = line.text;
+    text[0] == b'='
+}
+
+// A frame's call, counted.
+fn hear(words: &[i16], bytes: &[u8], state: State, payload: [u8; 20], tally: Tally) -> Place
+    ensures { λ r. ⌜ r ≡ Steps.called (now (words .entry)) (now (bytes .entry)) state tally (heard payload 320) ⌝ }
+{
+    let mut samples = [0i16; 320];
+    let a = celp::decode(words, bytes, state, &payload, &mut samples);
+    let next = a.state;
+    let number = a.number;
+    let t = tally::numbered(tally, number);
+    if number != 0 {
+        return Place {
+            state: next,
+            tally: t,
+        };
+    }
+    let s = a.subframes;
+    Place {
+        state: next,
+        tally: tally::with_frame(t, s),
+    }
+}
+
+// A line that is not `=`: a frame, or a missed one.
+fn call(words: &[i16], bytes: &[u8], state: State, line: Line, tally: Tally) -> Place
+    ensures { λ r. ⌜ r ≡ Steps.lineCalled (now (words .entry)) (now (bytes .entry)) state tally (Held.heldLine line) ⌝ }
+{
+    if hex::held_frame(line) {
+        let text = line.text;
+        return hear(words, bytes, state, hex::payload(text), tally);
+    }
+    let missed = celp::missed_frame(state);
+    let next = missed.state;
+    Place {
+        state: next,
+        tally: tally::numbered(tally, 9),
+    }
+}
+
+// The end of a line. Where the tally is full nothing is counted any more.
+fn end_line(words: &[i16], bytes: &[u8], state: State, line: Line, tally: Tally) -> Place
+    ensures { λ r. ⌜ r ≡ Steps.lineEnded (now (words .entry)) (now (bytes .entry)) state tally (Held.heldLine line) ⌝ }
+{
+    if tally::full(tally) {
+        return Place { state, tally };
+    }
+    if is_end(line) {
+        let start = celp::reset(words, bytes);
+        let next = start.state;
+        return Place {
+            state: next,
+            tally: tally::ended(tally),
+        };
+    }
+    call(words, bytes, state, line, tally)
+}
+
+// The start from the table file's bytes, of which the first 15,835 are enough: its words are put, and its refusal goes over the beginning of room.
+pub fn begin(file: &[u8], words: &mut [i16], room: &mut [u8]) -> Started
+    requires { ⌜ length (now words) ≡ 5963 ⌝ ∗ ⌜ 17 ≤ length (now room) ⌝ }
+    ensures started { λ r. ⌜ r ≡ Feed.started (now (file .entry)) ⌝ }
+    ensures words { λ _. ⌜ now (words .exit) ≡ File.wordsOr (now (file .entry)) (now (words .entry)) ⌝ }
+    ensures text { λ _. ⌜ now (room .exit) ≡ over (Recording.startText (now (file .entry))) (now (room .entry)) ⌝ }
+    ensures ready { λ r. ⌜ (r .number ≡ 0 → Recording.Tables (now (words .exit)) (now (file .entry))) ⌝ }
+    ensures fits { λ r. ⌜ Counts (r .n) (now (room .exit)) ⌝ }
+{
+    let start = recording::begin(file, words, room);
+    let recorder = start.recorder;
+    let state = recorder.state;
+    let line = recorder.line;
+    let tally = tally::empty();
+    Started {
+        recorder: Recorder { state, line, tally },
+        number: start.number,
+        n: start.n,
+    }
+}
+
+fn take_in(words: &[i16], bytes: &[u8], recorder: Recorder, chunk: &[u8]) -> Recorder
+    ensures { λ r. ⌜ r ≡ fedAll (Feed.fed (now (words .entry)) (now (bytes .entry))) recorder (now (chunk .entry)) ⌝ }
+{
+    let mut state = recorder.state;
+    let mut line = recorder.line;
+    let mut tally = recorder.tally;
+    let mut i = 0;
+    while i < chunk.len() {
+        let b = chunk[i];
+        i += 1;
+        if b == b'\n' {
+            let place = end_line(words, bytes, state, line, tally);
+            state = place.state;
+            tally = place.tally;
+            line = hex::empty();
+        } else {
+            line = hex::push(line, b);
+        }
+    }
+    Recorder { state, line, tally }
+}
+
+// A chunk of the input.
+pub fn feed(words: &[i16], file: &[u8], recorder: Recorder, chunk: &[u8]) -> Recorder
+    requires { ⌜ Recording.Tables (now words) (now file) ⌝ }
+    ensures { λ r. ⌜ r ≡ fedAll (Feed.fedBy (now (file .entry))) recorder (now (chunk .entry)) ⌝ }
+{
+    take_in(words, &file[11926..], recorder, chunk)
+}
+
+// Whether there is no use in more input.
+pub fn is_full(recorder: Recorder) -> bool
+    ensures { λ r. ⌜ r ≡ Figures.full (recorder .tally) ⌝ }
+{
+    let tally = recorder.tally;
+    tally::full(tally)
+}
+
+// The tally where the input ends: a line that is open is a line, unless nothing stands in it.
+fn end_tally(words: &[i16], bytes: &[u8], recorder: Recorder) -> Tally
+    ensures { λ r. ⌜ r ≡ Feed.endTally (now (words .entry)) (now (bytes .entry)) recorder ⌝ }
+{
+    let line = recorder.line;
+    let tally = recorder.tally;
+    if line.n == 0 {
+        return tally;
+    }
+    let state = recorder.state;
+    let place = end_line(words, bytes, state, line, tally);
+    place.tally
+}
+
+// The end of the input: its report goes over the beginning of room.
+pub fn report(words: &[i16], file: &[u8], recorder: Recorder, room: &mut [u8]) -> usize
+    requires { ⌜ Recording.Tables (now words) (now file) ⌝ ∗ ⌜ 16384 ≤ length (now room) ⌝ }
+    ensures length { λ r. ⌜ r ≡ length (Feed.endingBy (now (file .entry)) recorder) ⌝ }
+    ensures text { λ _. ⌜ now (room .exit) ≡ over (Feed.endingBy (now (file .entry)) recorder) (now (room .entry)) ⌝ }
+    ensures fits { λ r. ⌜ Counts r (now (room .exit)) ⌝ }
+{
+    let tally = end_tally(words, &file[11926..], recorder);
+    term_text::put_report(tally, room)
+}

@@ -1,0 +1,5 @@
+pub mod Whole
+pub mod Sums
+pub mod Outcomes
+pub mod Totals
+pub mod Joined

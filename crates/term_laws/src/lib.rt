@@ -1,0 +1,1 @@
+// No function: what holds of the term report's figures.

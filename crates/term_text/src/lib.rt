@@ -1,0 +1,89 @@
+// The term report's text: a figure a line.
+ghost use mathlib.Core.Path.{_≡_};
+ghost use Prim.Native.Nat.{_+_, _*_, _≤_};
+ghost use lib.ListN.{length};
+ghost use lib.Seq.{sets};
+ghost use Rattle.io.specs.Counts.{Counts};
+ghost use Rattle.stream.specs.Room.{over};
+ghost use Rattle.term_text.specs.Report as Report;
+use tally::Subframes;
+use tally::Tally;
+
+// A line of a name and two numbers.
+fn put_row(name: &[u8], k: u64, value: u64, n: usize, room: &mut [u8]) -> usize
+    requires { ⌜ n + length (now name) + 42 ≤ length (now room) ⌝ }
+    ensures next { λ r. ⌜ r ≡ n + length (Report.row (now (name .entry)) k value) ⌝ }
+    ensures text { λ _. ⌜ now (room .exit) ≡ sets (now (room .entry)) n (Report.row (now (name .entry)) k value) ⌝ }
+{
+    let a = stream::put_at(name, n, room);
+    let b = stream::put_decimal(k, a, room);
+    stream::put_figure(b" ", value, b, room)
+}
+
+// A row for each count, the first being that of number from.
+fn put_rows(name: &[u8], from: u64, counts: &[u64], n: usize, room: &mut [u8]) -> usize
+    requires { ⌜ length (now name) ≤ 11 ⌝ ∗ ⌜ from + length (now counts) ≤ 1000 ⌝ ∗ ⌜ n + 53 * length (now counts) ≤ length (now room) ⌝ }
+    ensures next { λ r. ⌜ r ≡ n + length (Report.rows (now (name .entry)) from (now (counts .entry))) ⌝ }
+    ensures text { λ _. ⌜ now (room .exit) ≡ sets (now (room .entry)) n (Report.rows (now (name .entry)) from (now (counts .entry))) ⌝ }
+{
+    let mut at = n;
+    let mut i = 0;
+    while i < counts.len() {
+        at = put_row(name, from + i as u64, counts[i], at, room);
+        i += 1;
+    }
+    at
+}
+
+fn put_numbers(tally: Tally, n: usize, room: &mut [u8]) -> usize
+    requires { ⌜ n + 123 ≤ length (now room) ⌝ }
+    ensures next { λ r. ⌜ r ≡ n + length (Report.numberLines tally) ⌝ }
+    ensures text { λ _. ⌜ now (room .exit) ≡ sets (now (room .entry)) n (Report.numberLines tally) ⌝ }
+    ensures fits { λ r. ⌜ r ≤ n + 123 ⌝ }
+{
+    let a = stream::put_figure(b"accepted ", tally.accepted, n, room);
+    let b = stream::put_figure(b"refused 6 ", tally.refused_6, a, room);
+    let c = stream::put_figure(b"refused 7 ", tally.refused_7, b, room);
+    stream::put_figure(b"refused 9 ", tally.refused_9, c, room)
+}
+
+fn put_gains(s: Subframes, n: usize, room: &mut [u8]) -> usize
+    requires { ⌜ n + 79 ≤ length (now room) ⌝ }
+    ensures next { λ r. ⌜ r ≡ n + length (Report.gainLines s) ⌝ }
+    ensures text { λ _. ⌜ now (room .exit) ≡ sets (now (room .entry)) n (Report.gainLines s) ⌝ }
+    ensures fits { λ r. ⌜ r ≤ n + 79 ⌝ }
+{
+    let a = stream::put_figure(b"largest code gain ", s.largest, n, room);
+    stream::put_figure(b"smallest code gain ", s.smallest, a, room)
+}
+
+fn put_subframes(s: Subframes, n: usize, room: &mut [u8]) -> usize
+    requires { ⌜ n + 13859 ≤ length (now room) ⌝ }
+    ensures next { λ r. ⌜ r ≡ n + length (Report.subframeLines s) ⌝ }
+    ensures text { λ _. ⌜ now (room .exit) ≡ sets (now (room .entry)) n (Report.subframeLines s) ⌝ }
+    ensures fits { λ r. ⌜ r ≤ n + 13859 ⌝ }
+{
+    let classes = s.classes;
+    let lags = s.lags;
+    let gain_indexes = s.gain_indexes;
+    let a = put_rows(b"class ", 0, &classes, n, room);
+    let b = put_rows(b"lag ", 19, &lags, a, room);
+    let c = put_rows(b"gain index ", 0, &gain_indexes, b, room);
+    put_gains(s, c, room)
+}
+
+// The report, over the beginning of room. The answer is its length.
+pub fn put_report(tally: Tally, room: &mut [u8]) -> usize
+    requires { ⌜ 16384 ≤ length (now room) ⌝ }
+    ensures length { λ r. ⌜ r ≡ length (Report.report tally) ⌝ }
+    ensures text { λ _. ⌜ now (room .exit) ≡ over (Report.report tally) (now (room .entry)) ⌝ }
+    ensures fits { λ r. ⌜ Counts r (now (room .exit)) ⌝ }
+{
+    let subframes = tally.subframes;
+    let a = put_numbers(tally, 0, room);
+    let b = put_subframes(subframes, a, room);
+    if tally::full(tally) {
+        return stream::put_at(b"stopped at 4294967295 lines\n", b, room);
+    }
+    b
+}
