@@ -57,7 +57,9 @@ fn add(sum: &mut [u64], more: &[u64]) {
 fn one(launch: &str, folder: &std::path::Path, kind: &str, seed: u64, frames: u64, lines: usize) -> Result<Tally, String> {
     let tables = sets::set(kind, seed);
     lent::fill(&tables);
-    let recording = Native::recording(lines, frames);
+    // some begin with `+`, some with two, of which the second is refused, and some cold
+    let mut recording = b"+\n".repeat((frames % 3) as usize);
+    recording.extend(Native::recording(lines, frames));
     std::fs::write(folder.join("tables.bin"), &tables).unwrap();
     std::fs::write(folder.join("recording"), &recording).unwrap();
     let mut child = Command::new(launch)

@@ -2,8 +2,8 @@
 //!
 //! oracle questions MODULE [SEED]        questions for a module, a line each
 //! oracle answers MODULE [TABLES]        the Rust's answers to the questions on standard input
-//! oracle trace TABLES [junk]            every figure of every frame of the recording on standard input, from reset; with junk
-//!                                       in the places that no frame may depend on
+//! oracle trace TABLES [junk]            every figure of every frame of the recording on standard input, which starts cold unless its
+//!                                       first line is `+`; with junk in the places that no frame may depend on
 //! oracle digest TABLES                  the same in a line for each line of the recording, 32 bits for each part; what was met goes
 //!                                       to standard error
 //! oracle compare LAUNCH SETS LINES      `LAUNCH trace` on sets of every kind, every figure compared (compare.rs)

@@ -1,5 +1,5 @@
 //! Every figure of every frame of a recording, as the Rust gives it: a line a part, numbers in decimal, floats by their bits.
-//! The mark, and refusals 7 and 9, are document 01's; the Rust has none of them.
+//! The mark, and refusals 7 and 9, are document 01's, and a first line `+` is document 02's; the Rust has none of them.
 use super::{lsp, postfilter::OutputFilter, probe::digits, probe::digits_fit};
 use crate::celp::{post_fec, Native};
 use crate::compare::Tally;
@@ -92,13 +92,16 @@ fn refusal(payload: &[u8; 20]) -> u8 {
 }
 
 impl Tracer {
-    pub fn new() -> Self {
+    /// For the lines that are left of a recording: from reset, with mark 2, where its first is `+`; else cold, with mark 0.
+    fn opened(recording: &[u8]) -> (Self, impl Iterator<Item = &[u8]>) {
         check_layout();
-        Tracer {
+        let heard = rows(recording).next() == Some(b"+");
+        let tracer = Tracer {
             native: Native::default(),
-            mark: 2,
+            mark: if heard { 2 } else { 0 },
             tally: Tally::default(),
-        }
+        };
+        (tracer, rows(recording).skip(heard as usize))
     }
 
     fn floats(&self) -> impl Iterator<Item = f32> + '_ {
@@ -242,11 +245,11 @@ fn difference(rust: &[u8], ours: &[u8]) -> String {
 }
 
 impl Native {
-    /// The recording's lines, traced from reset; with junk in the places that no frame may depend on.
+    /// The recording's lines, traced; with junk in the places that no frame may depend on.
     pub fn trace(recording: &[u8], junk: bool, out: &mut impl Write) {
-        let mut tracer = Tracer::new();
+        let (mut tracer, lines) = Tracer::opened(recording);
         out.write_all(&tracer.start().bytes).unwrap();
-        for (n, row) in rows(recording).enumerate() {
+        for (n, row) in lines.enumerate() {
             if junk {
                 tracer.spoil(n);
             }
@@ -256,17 +259,17 @@ impl Native {
 
     /// The same under a heading, in one line for each line of the recording, 32 bits for each part.
     pub fn digest(name: &str, recording: &[u8], out: &mut impl Write) -> Tally {
-        let mut tracer = Tracer::new();
+        let (mut tracer, lines) = Tracer::opened(recording);
         writeln!(out, "digest {name} {:08x}", fnv(&tracer.start().bytes)).unwrap();
-        for row in rows(recording) {
+        for row in lines {
             writeln!(out, "{}", tracer.heard(row).digest()).unwrap();
         }
         tracer.tally
     }
 
-    /// The recording's lines, traced from reset, beside what the program wrote of them: the first difference, if there is one.
+    /// The recording's lines, traced, beside what the program wrote of them: the first difference, if there is one.
     pub fn compare(recording: &[u8], ours: &mut impl Read) -> Result<Tally, String> {
-        let mut tracer = Tracer::new();
+        let (mut tracer, lines) = Tracer::opened(recording);
         let mut same = |n: usize, rust: &[u8]| {
             let mut theirs = vec![0; rust.len()];
             let mut got = 0;
@@ -282,7 +285,7 @@ impl Native {
             Err(format!("line {n}: {}", difference(rust, &theirs[..got])))
         };
         same(0, &tracer.start().bytes)?;
-        for (n, row) in rows(recording).enumerate() {
+        for (n, row) in lines.enumerate() {
             same(n + 1, &tracer.heard(row).bytes)?;
         }
         match ours.read(&mut [0]).unwrap() {

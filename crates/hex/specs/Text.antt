@@ -2,7 +2,7 @@
 use Prim.Native.Nat.{ℕ, _+_, _-_, _*_, _/_, _%_}
 use mathlib.Core.Path.{_≡_, refl}
 use mathlib.Core.List.{List, [], _∷_, _++_}
-use mathlib.Core.Bool.{Bool, _&&_, cond}
+use mathlib.Core.Bool.{Bool, true, false, _&&_, cond}
 use lib.Dec.{eqb, ltb, leb}
 use lib.IntN.{ℤ, pos, negsuc}
 use lib.ListN.{length, getD}
@@ -34,7 +34,16 @@ isDigit c = ltb (value c) 16
 unfoldable pub isFrame : List ℕ → Bool
 isFrame line = eqb (length line) 40 && all isDigit line
 
--- the 20 bytes of such a line: two digits a byte, the high one first
+-- a line of that one byte, and nothing else
+unfoldable pub isOnly : ℕ → List ℕ → Bool
+isOnly b line = eqb (length line) 1 && eqb (getD line 0 0) b
+
+-- `+`; and what is none: an empty line, `-`, `++`, `+` with a blank or a carriage return behind it
+pluses : (isOnly 43 (43 ∷ []) ≡ true) × (isOnly 43 [] ≡ false) × (isOnly 43 (45 ∷ []) ≡ false) × (isOnly 43 (43 ∷ 43 ∷ []) ≡ false) × (isOnly 43 (43 ∷ 32 ∷ []) ≡ false) × (isOnly 43 (43 ∷ 13 ∷ []) ≡ false)
+unfolding isOnly
+pluses = (refl, refl, refl, refl, refl, refl)
+
+-- the 20 bytes of a frame's line: two digits a byte, the high one first
 unfoldable pub byteAt : List ℕ → ℕ → ℕ
 byteAt line k = 16 * value (getD line (2 * k) 0) + value (getD line (2 * k + 1) 0)
 

@@ -80,6 +80,17 @@ pub fn held_frame(line: Line) -> bool
     all_digits(text)
 }
 
+// Whether the line that is held is this one byte.
+pub fn is_only(line: Line, b: u8) -> bool
+    ensures { λ r. ⌜ r ≡ Text.isOnly b (Held.heldLine line) ⌝ }
+{
+    if line.n != 1 {
+        return false;
+    }
+    let text = line.text;
+    text[0] == b
+}
+
 // The bytes of 40 digits.
 pub fn payload(text: [u8; 40]) -> [u8; 20]
     requires { ⌜ all Text.isDigit text ≡ true ⌝ }

@@ -2,20 +2,21 @@
 use Prim.Native.Nat.{ℕ, zero, suc, _+_, _-_, _*_, _<_, _≤_, min}
 use mathlib.Core.Path.{_≡_, refl, ap, _∙_}
 use mathlib.Core.List.{List, [], _∷_, _++_, append-nil}
-use mathlib.Core.Bool.{Bool, cond}
+use mathlib.Core.Bool.{Bool, true, false, _&&_, cond}
 use native.Mathlib.Omega.{arith}
 use lib.Dec.{eqb}
 use lib.IntN.{ℤ}
 use lib.ListN.{length, take, drop, length-drop}
 use lib.Seq.{take-all}
 use borrow.Author.Tests.{eq-eqb, ne-eqb}
+use Rattle.stream.specs.Lines.{lines}
 use Rattle.stream.specs.Held.{zeros, push-text, push-count, push-one, shown-same}
 use Rattle.stream.specs.Machine.{fedAll, writtenAll, Streamed, streamed-most}
 use Rattle.stream.specs.Reads.{Read, inputOf, answers, Took}
 use Rattle.stream.specs.Reads as Reads
-use Rattle.stream.specs.Told.{told, last, Machine, reads-told}
+use Rattle.stream.specs.Told.{texts, told, last, Machine, reads-told}
 use Rattle.celp.specs.declared.State.{State}
-use Rattle.celp.specs.State.{allZero, reset}
+use Rattle.celp.specs.State.{allZero, reset, coldStart}
 use Rattle.celp.specs.Run.{Event, step}
 use Rattle.hex.specs.declared.Line.{Line}
 use Rattle.hex.specs.Held.{kept, push, heldLine}
@@ -23,17 +24,22 @@ use Rattle.recording.specs.declared.Recorder.{Recorder}
 use Rattle.recording.specs.declared.Said.{Said}
 use Rattle.recording.specs.declared.Fed.{Fed}
 use Rattle.recording.specs.declared.Started.{Started}
-use Rattle.hex.specs.Text.{isFrame, tablesRefusedText}
+use Rattle.hex.specs.Text.{isFrame, isOnly, tablesRefusedText}
 use Rattle.hex.specs.File as File
-use Rattle.recording.specs.Recording.{event, text, lineStep, lineText, transcript, output, program}
+use Rattle.recording.specs.Recording.{event, text, lineStep, lineText, isStart, opening, transcriptOf, transcript, output, program}
 
 -- ---- where a recording stands
-abbrev pub standing : State → Line → Recorder
-standing state line = record { state = state; line = line }
+-- between two lines: whether its first is still to come, and the state
+pub record Place : Type 0 where
+  pub first : Bool
+  pub state : State
+
+abbrev pub standing : Bool → State → Line → Recorder
+standing first state line = record { first = first; state = state; line = line }
 
 -- after a start that is refused
 unfoldable pub idle : Recorder
-idle = record { state = allZero; line = kept [] }
+idle = record { first = true; state = allZero; line = kept [] }
 
 -- the room that a chunk of n bytes asks: 32 for each of its own and of those that are held, and one text more. A frame's text, 1,283 bytes, is paid for by
 -- the 41 of its line, and a refusal's 10 by one
@@ -44,80 +50,110 @@ abbrev pub credit : Recorder → ℕ
 credit r = 32 * min (r .line .n) 41
 
 module _ (words : List ℤ) (bytes : List ℕ) where
-  -- at the start: reset, and no line is open
+  -- at the start: cold, and no line is open
   unfoldable pub begin : Recorder
-  begin = record { state = reset words bytes .state; line = kept [] }
+  begin = record { first = true; state = coldStart words bytes .state; line = kept [] }
 
   -- a call: how long its text is, and the state that it returns
   unfoldable pub called : State → Event → Said
   called s e = record { n = length (text words bytes s e); state = step words bytes s e }
 
-  -- the end of a line
-  unfoldable pub said : State → Line → Said
-  said s l = record { n = length (lineText words bytes s (heldLine l)); state = lineStep words bytes s (heldLine l) }
+  -- the end of a line: a first `+` gives reset and no text, any other line is a call
+  unfoldable pub endStep : Bool → State → List ℕ → State
+  endStep first s line = cond (first && isStart line) (reset words bytes .state) (lineStep words bytes s line)
+
+  unfoldable pub endText : Bool → State → List ℕ → List ℕ
+  endText first s line = cond (first && isStart line) [] (lineText words bytes s line)
+
+  unfoldable pub said : Bool → State → Line → Said
+  said first s l = record { n = length (endText first s (heldLine l)); state = endStep first s (heldLine l) }
 
   -- a byte more: a newline ends the line
   unfoldable pub fed : Recorder → ℕ → Recorder
   fed r b =
-      cond (eqb b 10) (record { state = lineStep words bytes (r .state) (heldLine (r .line)); line = kept [] })
-      (record { state = r .state; line = push (r .line) b })
+      cond (eqb b 10) (standing false (endStep (r .first) (r .state) (heldLine (r .line))) (kept []))
+      (standing (r .first) (r .state) (push (r .line) b))
 
   -- what is written where the input ends: a line that is open is a line, unless nothing stands in it
   unfoldable pub ending : Recorder → List ℕ
-  ending r = cond (eqb (r .line .n) 0) [] (lineText words bytes (r .state) (heldLine (r .line)))
+  ending r = cond (eqb (r .line .n) 0) [] (endText (r .first) (r .state) (heldLine (r .line)))
 
   -- what is written at a byte: the text of the line that it ends
   unfoldable pub written : Recorder → ℕ → List ℕ
-  written r b = cond (eqb b 10) (lineText words bytes (r .state) (heldLine (r .line))) []
+  written r b = cond (eqb b 10) (endText (r .first) (r .state) (heldLine (r .line))) []
 
   -- a chunk: where it leaves the recorder, and how long its text is
   unfoldable pub fedChunk : Recorder → List ℕ → Fed
   fedChunk r chunk = record { recorder = fedAll fed r chunk; n = length (writtenAll fed written r chunk) }
 
   -- ---- it is the machine of the lines
-  at : State → List ℕ → Recorder
-  at s line = record { state = s; line = kept line }
+  at : Place → List ℕ → Recorder
+  at p line = standing (p .first) (p .state) (kept line)
 
-  module _ (s : State) (line : List ℕ) where
-    step-long : 40 < length line → lineStep words bytes s line ≡ lineStep words bytes s (zeros 41)
-    unfolding lineStep event isFrame
-    step-long h = rw (ne-eqb (length line) 40 (λ e. omega arith))
+  placeStep : Place → List ℕ → Place
+  placeStep p line = record { first = false; state = endStep (p .first) (p .state) line }
 
-    text-long : 40 < length line → lineText words bytes s line ≡ lineText words bytes s (zeros 41)
-    unfolding lineText event isFrame
-    text-long h = rw (ne-eqb (length line) 40 (λ e. omega arith))
+  placeText : Place → List ℕ → List ℕ
+  placeText p line = endText (p .first) (p .state) line
 
-    step-held : lineStep words bytes s (heldLine (kept line)) ≡ lineStep words bytes s line
+  module _ (p : Place) (line : List ℕ) where
+    step-long : 40 < length line → placeStep p line ≡ placeStep p (zeros 41)
+    unfolding placeStep endStep isStart isOnly lineStep event isFrame
+    step-long h = rw (ne-eqb (length line) 1 (λ e. omega arith), ne-eqb (length line) 40 (λ e. omega arith))
+
+    text-long : 40 < length line → placeText p line ≡ placeText p (zeros 41)
+    unfolding placeText endText isStart isOnly lineText event isFrame
+    text-long h = rw (ne-eqb (length line) 1 (λ e. omega arith), ne-eqb (length line) 40 (λ e. omega arith))
+
+    step-held : placeStep p (heldLine (kept line)) ≡ placeStep p line
     unfolding heldLine kept
-    step-held = shown-same 40 line (lineStep words bytes s) step-long
+    step-held = shown-same 40 line (placeStep p) step-long
 
-    text-held : lineText words bytes s (heldLine (kept line)) ≡ lineText words bytes s line
+    text-held : placeText p (heldLine (kept line)) ≡ placeText p line
     unfolding heldLine kept
-    text-held = shown-same 40 line (lineText words bytes s) text-long
+    text-held = shown-same 40 line (placeText p) text-long
 
   -- nothing more is written at the end
-  nothing : State → List ℕ
-  nothing s = []
+  nothing : Place → List ℕ
+  nothing p = []
 
-  ends : (s : State) (line : List ℕ) → ending (at s line) ≡ last (lineStep words bytes) (lineText words bytes) nothing s line
-  unfolding at ending kept last nothing
-  ends s [] = refl
-  ends s (b ∷ bs) = rw (ne-eqb (min (suc (length bs)) 41) 0 (λ e. omega arith), append-nil) (text-held s (b ∷ bs))
+  ends : (p : Place) (line : List ℕ) → ending (at p line) ≡ last placeStep placeText nothing p line
+  unfolding at ending placeText kept last nothing
+  ends p [] = refl
+  ends p (b ∷ bs) = rw (ne-eqb (min (suc (length bs)) 41) 0 (λ e. omega arith), append-nil) (text-held p (b ∷ bs))
 
-  machine : Machine (lineStep words bytes) (lineText words bytes) (last (lineStep words bytes) (lineText words bytes) nothing) fed written ending at
-  unfolding at fed written push kept
+  machine : Machine placeStep placeText (last placeStep placeText nothing) fed written ending at
+  unfolding at fed written placeStep placeText push kept
   machine = record {
-    newline = λ s line. ap (λ (t : State). record { state = t; line = kept [] }) (step-held s line);
-    newline-text = λ s line. text-held s line;
-    other = λ s line b h. rw (ne-eqb b 10 h, push-text 40 line b, push-count 40 line b);
-    other-text = λ s line b h. rw (ne-eqb b 10 h);
+    newline = λ p line. ap (λ (q : Place). standing false (q .state) (kept [])) (step-held p line);
+    newline-text = λ p line. text-held p line;
+    other = λ p line b h. rw (ne-eqb b 10 h, push-text 40 line b, push-count 40 line b);
+    other-text = λ p line b h. rw (ne-eqb b 10 h);
     end-text = ends;
   }
+
+  -- behind the first line a place's answers are its state's; before it they are what the opening leads to
+  going : (s : State) (ls : List (List ℕ)) → texts placeStep placeText (record { first = false; state = s }) ls ≡ texts (lineStep words bytes) (lineText words bytes) s ls
+  unfolding texts placeStep placeText endStep endText
+  going s [] = refl
+  going s (l ∷ ls) = ap (λ (t : List ℕ). lineText words bytes s l ++ t) (going (lineStep words bytes s l) ls)
+
+  begun : (ls : List (List ℕ)) → texts placeStep placeText (record { first = true; state = coldStart words bytes .state }) ls ≡ transcriptOf words bytes (opening words bytes ls)
+  unfolding texts placeStep placeText endStep endText opening transcriptOf
+  begun [] = refl
+  begun (l ∷ ls) = by (isStart l) refl
+    where
+      by : (start : Bool) → isStart l ≡ start → texts placeStep placeText (record { first = true; state = coldStart words bytes .state }) (l ∷ ls) ≡ transcriptOf words bytes (opening words bytes (l ∷ ls))
+      by true e = rw e (going (reset words bytes .state) ls)
+      by false e = rw e (ap (λ (t : List ℕ). lineText words bytes (coldStart words bytes .state) l ++ t) (going (lineStep words bytes (coldStart words bytes .state) l) ls))
 
   -- however its input is cut into reads, their texts, joined, are the transcript of all that was read
   pub transcript-told : (reads : List Read) → answers fed written ending begin reads ≡ transcript words bytes (inputOf reads)
   unfolding begin at transcript told nothing
-  transcript-told reads = reads-told (lineStep words bytes) (lineText words bytes) nothing fed written ending at machine (reset words bytes .state) reads ∙ append-nil _
+  transcript-told reads =
+      reads-told placeStep placeText nothing fed written ending at machine (record { first = true; state = coldStart words bytes .state }) reads
+      ∙ append-nil _
+      ∙ begun (lines (inputOf reads))
 
   -- ---- the loop over a chunk, in a room that is large enough
   -- a line's text has room behind what is there
@@ -127,11 +163,11 @@ module _ (words : List ℤ) (bytes : List ℕ) where
       (omega arith, m .1)
 
   -- a turn of it, at a newline and at another byte
-  pub fed-newline : (r : Recorder) {b : ℕ} → b ≡ 10 → (fed r b ≡ standing (lineStep words bytes (r .state) (heldLine (r .line))) (kept [])) × (written r b ≡ lineText words bytes (r .state) (heldLine (r .line)))
+  pub fed-newline : (r : Recorder) {b : ℕ} → b ≡ 10 → (fed r b ≡ standing false (endStep (r .first) (r .state) (heldLine (r .line))) (kept [])) × (written r b ≡ endText (r .first) (r .state) (heldLine (r .line)))
   unfolding fed written
   fed-newline r {b} e = rw (eq-eqb b 10 e) (refl, refl)
 
-  pub fed-other : (r : Recorder) {b : ℕ} → (b ≡ 10 → ⊥) → (fed r b ≡ standing (r .state) (push (r .line) b)) × (written r b ≡ [])
+  pub fed-other : (r : Recorder) {b : ℕ} → (b ≡ 10 → ⊥) → (fed r b ≡ standing (r .first) (r .state) (push (r .line) b)) × (written r b ≡ [])
   unfolding fed written
   fed-other r {b} h = rw (ne-eqb b 10 h) (refl, refl)
 

@@ -1,2 +1,3 @@
 pub mod Recording
 pub mod Feed
+pub mod Late

@@ -9,14 +9,14 @@ use lib.IntN.{ℤ, pos}
 use lib.ListN.{length, take, replicate, length-take}
 use lib.Seq.{take-all}
 use borrow.Author.Tests.{ltb-true, ltb-false, ne-eqb}
-use Rattle.stream.specs.Lines.{lines}
+use Rattle.stream.specs.Lines.{pieces, ofPieces, lines}
 use Rattle.stream.specs.Told.{texts}
 use Rattle.celp.specs.declared.State.{State}
 use Rattle.celp.specs.declared.Answer.{Answer}
-use Rattle.celp.specs.State.{reset}
+use Rattle.celp.specs.State.{reset, coldStart}
 use Rattle.celp.specs.Celp as Celp
 use Rattle.celp.specs.Run.{Event, heard, missed, step}
-use Rattle.hex.specs.Text.{digit, isFrame, payload, frameText, refusedText, tablesRefusedText}
+use Rattle.hex.specs.Text.{digit, isFrame, isOnly, payload, frameText, refusedText, tablesRefusedText}
 use Rattle.hex.specs.File as File
 
 -- the call that a line stands for: one that is not 40 hex digits counts as a missed frame
@@ -43,9 +43,28 @@ lineStep words bytes s line = step words bytes s (event line)
 unfoldable pub lineText : List ℤ → List ℕ → State → List ℕ → List ℕ
 lineText words bytes s line = text words bytes s (event line)
 
--- a recording, from reset: its lines, one after the other
+-- a line that says that the call was heard from its start: `+`
+unfoldable pub isStart : List ℕ → Bool
+isStart line = isOnly 43 line
+
+-- how a recording opens: the state that its calls begin in, and the lines that are left for them
+pub record Opening : Type 0 where
+  pub state : State
+  pub lines : List (List ℕ)
+
+-- a first line `+` says that its call was heard from the start: it stands for no call, and the rest begins at reset; any other recording begins cold
+unfoldable pub opening : List ℤ → List ℕ → List (List ℕ) → Opening
+opening words bytes [] = record { state = coldStart words bytes .state; lines = [] }
+opening words bytes (line ∷ more) =
+    cond (isStart line) (record { state = reset words bytes .state; lines = more })
+    (record { state = coldStart words bytes .state; lines = line ∷ more })
+
+-- the lines of a recording, one after the other, as they are answered
+unfoldable pub transcriptOf : List ℤ → List ℕ → Opening → List ℕ
+transcriptOf words bytes o = texts (lineStep words bytes) (lineText words bytes) (o .state) (o .lines)
+
 unfoldable pub transcript : List ℤ → List ℕ → List ℕ → List ℕ
-transcript words bytes input = texts (lineStep words bytes) (lineText words bytes) (reset words bytes .state) (lines input)
+transcript words bytes input = transcriptOf words bytes (opening words bytes (lines input))
 
 -- all that the program writes, by the table file's refusal number
 unfoldable pub output : ℕ → List ℕ → List ℕ → List ℕ
@@ -72,6 +91,20 @@ first-bytes file input = by (ltb 15835 (length file)) refl
 no-file : (input : List ℕ) → program [] input ≡ 116 ∷ 97 ∷ 98 ∷ 108 ∷ 101 ∷ 115 ∷ 32 ∷ 114 ∷ 101 ∷ 102 ∷ 117 ∷ 115 ∷ 101 ∷ 100 ∷ 32 ∷ 49 ∷ 10 ∷ []
 unfolding program File.checkFile output tablesRefusedText refusedText digit
 no-file input = refl
+
+-- an empty recording, and one of `+` alone, with its newline and without, have no line to answer
+none-left : (words : List ℤ) (bytes : List ℕ) → (transcript words bytes [] ≡ []) × (transcript words bytes (43 ∷ []) ≡ []) × (transcript words bytes (43 ∷ 10 ∷ []) ≡ [])
+unfolding transcript transcriptOf opening isStart isOnly lines pieces ofPieces texts
+none-left words bytes = (refl, refl, refl)
+
+-- a second `+` is `refused 9`; and `+` with a carriage return opens nothing, so that recording begins cold
+second-start : (words : List ℤ) (bytes : List ℕ) → transcript words bytes (43 ∷ 10 ∷ 43 ∷ []) ≡ refusedText 9
+unfolding transcript transcriptOf opening isStart isOnly lines pieces ofPieces texts lineText event isFrame text refusedText
+second-start words bytes = refl
+
+no-start : (words : List ℤ) (bytes : List ℕ) → opening words bytes ((43 ∷ 13 ∷ []) ∷ []) ≡ record { state = coldStart words bytes .state; lines = (43 ∷ 13 ∷ []) ∷ [] }
+unfolding opening isStart isOnly
+no-start words bytes = refl
 
 -- an empty line is `refused 9`, of any state
 empty-line : (words : List ℤ) (bytes : List ℕ) (s : State) → text words bytes s (event []) ≡ 114 ∷ 101 ∷ 102 ∷ 117 ∷ 115 ∷ 101 ∷ 100 ∷ 32 ∷ 57 ∷ 10 ∷ []

@@ -1,5 +1,6 @@
 // A recording as text: frames come in as lines of hexadecimal, samples go out as lines of hexadecimal.
 ghost use mathlib.Core.Path.{_≡_};
+ghost use mathlib.Core.Bool.{_&&_};
 ghost use Prim.Native.Nat.{_+_, _*_, _≤_, min};
 ghost use lib.ListN.{length};
 ghost use Rattle.io.specs.Counts.{Counts};
@@ -11,12 +12,13 @@ ghost use Rattle.hex.specs.Held as Held;
 ghost use Rattle.recording.specs.Recording as Recording;
 ghost use Rattle.recording.specs.Feed as Feed;
 ghost use Rattle.celp.specs.Run.{heard};
-ghost use Rattle.celp.specs.State.{missedFrame};
+ghost use Rattle.celp.specs.State as Start;
 use celp::State;
 use hex::Line;
 
-// Where a recording stands: the decoder's state, and the line that is coming in.
+// Where a recording stands: whether its first line is still to come, the decoder's state, and the line that is coming in.
 pub struct Recorder {
+    pub first: bool,
     pub state: State,
     pub line: Line,
 }
@@ -40,26 +42,27 @@ pub struct Started {
     pub n: usize,
 }
 
-// From reset, with no line open.
-fn from_reset(words: &[i16], bytes: &[u8]) -> Recorder
+// Cold until a first line says otherwise, with no line open.
+fn from_cold(words: &[i16], bytes: &[u8]) -> Recorder
     ensures { λ r. ⌜ r ≡ Feed.begin (now (words .entry)) (now (bytes .entry)) ⌝ }
 {
-    let r = celp::reset(words, bytes);
+    let r = celp::cold_start(words, bytes);
     let state = r.state;
     let line = hex::empty();
-    Recorder { state, line }
+    Recorder {
+        first: true,
+        state,
+        line,
+    }
 }
 
-// Of tables that are refused: a reset that is given none.
+// Of tables that are refused: a cold start that is given none.
 fn idle() -> Recorder
     ensures { λ r. ⌜ r ≡ Feed.idle ⌝ }
 {
     let words = [0i16; 1];
     let bytes = [0u8; 1];
-    let r = celp::reset(&words, &bytes);
-    let state = r.state;
-    let line = hex::empty();
-    Recorder { state, line }
+    from_cold(&words, &bytes)
 }
 
 // The start from the table file's bytes, of which the first 15,835 are enough: its words are put, and its refusal goes over the beginning of room.
@@ -82,7 +85,7 @@ pub fn begin(file: &[u8], words: &mut [i16], room: &mut [u8]) -> Started
         };
     }
     Started {
-        recorder: from_reset(words, &file[11926..]),
+        recorder: from_cold(words, &file[11926..]),
         number: 0,
         n: 0,
     }
@@ -113,16 +116,16 @@ fn hear(words: &[i16], bytes: &[u8], state: State, payload: [u8; 20], out: &mut 
 
 // The state that a missed frame leaves.
 fn missed(state: State) -> State
-    ensures { λ r. ⌜ r ≡ missedFrame state .state ⌝ }
+    ensures { λ r. ⌜ r ≡ Start.missedFrame state .state ⌝ }
 {
     let r = celp::missed_frame(state);
     r.state
 }
 
-// The end of a line: its text goes over the beginning of out.
-fn end_line(words: &[i16], bytes: &[u8], state: State, line: Line, out: &mut [u8]) -> Said
+// A line's call: its text goes over the beginning of out.
+fn call(words: &[i16], bytes: &[u8], state: State, line: Line, out: &mut [u8]) -> Said
     requires { ⌜ 1283 ≤ length (now out) ⌝ }
-    ensures said { λ r. ⌜ r ≡ Feed.said (now (words .entry)) (now (bytes .entry)) state line ⌝ }
+    ensures said { λ r. ⌜ r ≡ Feed.called (now (words .entry)) (now (bytes .entry)) state (Recording.event (Held.heldLine line)) ⌝ }
     ensures text { λ _. ⌜ now (out .exit) ≡ over (Recording.lineText (now (words .entry)) (now (bytes .entry)) state (Held.heldLine line)) (now (out .entry)) ⌝ }
     ensures fits { λ r. ⌜ r .n ≤ 1283 ⌝ }
     ensures paid { λ r. ⌜ r .n ≤ 32 * min (line .n) 41 + 32 ⌝ }
@@ -138,6 +141,48 @@ fn end_line(words: &[i16], bytes: &[u8], state: State, line: Line, out: &mut [u8
     }
 }
 
+// The state that a recording begins in whose call was heard from its start.
+fn reset(words: &[i16], bytes: &[u8]) -> State
+    ensures { λ r. ⌜ r ≡ Start.reset (now (words .entry)) (now (bytes .entry)) .state ⌝ }
+{
+    let start = celp::reset(words, bytes);
+    start.state
+}
+
+// Whether the line is a first `+`.
+pub fn is_opening(first: bool, line: Line) -> bool
+    ensures { λ r. ⌜ r ≡ first && Recording.isStart (Held.heldLine line) ⌝ }
+{
+    if first {
+        return hex::is_only(line, b'+');
+    }
+    false
+}
+
+// The end of a line: its text goes over the beginning of out. A first `+` has none.
+fn end_line(
+    words: &[i16],
+    bytes: &[u8],
+    first: bool,
+    state: State,
+    line: Line,
+    out: &mut [u8],
+) -> Said
+    requires { ⌜ 1283 ≤ length (now out) ⌝ }
+    ensures said { λ r. ⌜ r ≡ Feed.said (now (words .entry)) (now (bytes .entry)) first state line ⌝ }
+    ensures text { λ _. ⌜ now (out .exit) ≡ over (Feed.endText (now (words .entry)) (now (bytes .entry)) first state (Held.heldLine line)) (now (out .entry)) ⌝ }
+    ensures fits { λ r. ⌜ r .n ≤ 1283 ⌝ }
+    ensures paid { λ r. ⌜ r .n ≤ 32 * min (line .n) 41 + 32 ⌝ }
+{
+    if is_opening(first, line) {
+        return Said {
+            n: 0,
+            state: reset(words, bytes),
+        };
+    }
+    call(words, bytes, state, line, out)
+}
+
 // A chunk of the input: all its text goes over the beginning of room.
 fn feed(words: &[i16], bytes: &[u8], recorder: Recorder, chunk: &[u8], room: &mut [u8]) -> Fed
     requires { ⌜ Feed.roomFor (length (now chunk)) ≤ length (now room) ⌝ }
@@ -145,6 +190,7 @@ fn feed(words: &[i16], bytes: &[u8], recorder: Recorder, chunk: &[u8], room: &mu
     ensures text { λ _. ⌜ now (room .exit) ≡ over (writtenAll (Feed.fed (now (words .entry)) (now (bytes .entry))) (Feed.written (now (words .entry)) (now (bytes .entry))) recorder (now (chunk .entry))) (now (room .entry)) ⌝ }
     ensures fits { λ r. ⌜ Counts (r .n) (now (room .exit)) ⌝ }
 {
+    let mut first = recorder.first;
     let mut state = recorder.state;
     let mut line = recorder.line;
     let mut n = 0;
@@ -153,8 +199,9 @@ fn feed(words: &[i16], bytes: &[u8], recorder: Recorder, chunk: &[u8], room: &mu
         let b = chunk[at];
         at += 1;
         if b == b'\n' {
-            let said = end_line(words, bytes, state, line, &mut room[n..]);
+            let said = end_line(words, bytes, first, state, line, &mut room[n..]);
             n += said.n;
+            first = false;
             state = said.state;
             line = hex::empty();
         } else {
@@ -162,7 +209,7 @@ fn feed(words: &[i16], bytes: &[u8], recorder: Recorder, chunk: &[u8], room: &mu
         }
     }
     Fed {
-        recorder: Recorder { state, line },
+        recorder: Recorder { first, state, line },
         n,
     }
 }
@@ -179,7 +226,7 @@ fn end(words: &[i16], bytes: &[u8], recorder: Recorder, room: &mut [u8]) -> usiz
         return 0;
     }
     let state = recorder.state;
-    let said = end_line(words, bytes, state, line, room);
+    let said = end_line(words, bytes, recorder.first, state, line, room);
     said.n
 }
 

@@ -13,7 +13,7 @@ use Rattle.frame.specs.declared.Subframe.{Subframe}
 use Rattle.tally.specs.declared.Subframes.{Subframes}
 use Rattle.tally.specs.declared.Tally.{Tally}
 use Rattle.tally.specs.Figures.{Outcome, those, howMany, largest, smallest, class, gainIndex, codeGain, lagOf, spread, subframesOf, answeredWith, tally}
-use Rattle.tally.specs.Carried.{TOP, more, moreIf, bump, lagPlace, smaller, counted, countedAll, numbered, withFrame, ended, withOutcome}
+use Rattle.tally.specs.Carried.{TOP, more, moreIf, bump, lagPlace, smaller, counted, countedAll, numbered, withFrame, uncounted, withOutcome}
 
 -- ---- how many
 module _ {A : Type 0} (f : A → Bool) where
@@ -147,6 +147,6 @@ tally-more n os o p q h =
     at : (k : ℕ) → moreIf (answeredWith k os) (eqb (o .number) k) ≡ answeredWith k (os ++ (o ∷ []))
     at k = more-if (λ (x : Outcome). eqb (x .number) k) os o q
 
-pub tally-ended : (n : ℕ) (os : List Outcome) → n < TOP → ended (tally n os) ≡ tally (n + 1) os
-unfolding ended tally more
-tally-ended n os p = tally-same (omega arith) refl refl refl refl refl
+pub tally-uncounted : (n : ℕ) (os : List Outcome) → n < TOP → uncounted (tally n os) ≡ tally (n + 1) os
+unfolding uncounted tally more
+tally-uncounted n os p = tally-same (omega arith) refl refl refl refl refl

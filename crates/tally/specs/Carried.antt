@@ -66,9 +66,9 @@ numbered t number =
 unfoldable pub withFrame : Tally → List Subframe → Tally
 withFrame t ss = record { lines = t .lines; accepted = t .accepted; «refused_6» = t .«refused_6»; «refused_7» = t .«refused_7»; «refused_9» = t .«refused_9»; subframes = countedAll (t .subframes) ss }
 
--- a line that ends a recording
-unfoldable pub ended : Tally → Tally
-ended t = record { lines = more (t .lines); accepted = t .accepted; «refused_6» = t .«refused_6»; «refused_7» = t .«refused_7»; «refused_9» = t .«refused_9»; subframes = t .subframes }
+-- a line that no figure has: it ends a recording, or says that one was heard from its start
+unfoldable pub uncounted : Tally → Tally
+uncounted t = record { lines = more (t .lines); accepted = t .accepted; «refused_6» = t .«refused_6»; «refused_7» = t .«refused_7»; «refused_9» = t .«refused_9»; subframes = t .subframes }
 
 -- any other
 unfoldable pub withOutcome : Tally → Outcome → Tally

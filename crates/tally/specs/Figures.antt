@@ -92,7 +92,7 @@ tally n os =
       subframes = spread (subframesOf os);
     }
 
--- reading stops at so many lines, `=` among them
+-- reading stops at so many lines, each `=` and each first `+` among them
 abbrev pub LIMIT : ℕ
 LIMIT = 4294967295
 

@@ -6,7 +6,7 @@ ghost use Rattle.tally.specs.Figures as Figures;
 ghost use Rattle.tally.specs.Carried as Carried;
 use frame::Subframe;
 
-// Reading stops at so many lines, those that end a recording among them.
+// Reading stops at so many lines, those that no figure has among them.
 const LIMIT: u64 = 4294967295;
 
 // Of the subframes of accepted frames: how many there are, how many of each class from 0, lag from 19 and gain index from 0, and between what their code gains lie.
@@ -161,9 +161,9 @@ pub fn numbered(tally: Tally, number: u8) -> Tally
     }
 }
 
-// A line more, that ends a recording.
-pub fn ended(tally: Tally) -> Tally
-    ensures { λ r. ⌜ r ≡ Carried.ended tally ⌝ }
+// A line more that no figure has: it ends a recording, or says that one was heard from its start.
+pub fn uncounted(tally: Tally) -> Tally
+    ensures { λ r. ⌜ r ≡ Carried.uncounted tally ⌝ }
 {
     let mut t = tally;
     t.lines = more(tally.lines);

@@ -14,11 +14,11 @@ use Rattle.stream.specs.Machine.{fedAll, fed-append, writtenAll}
 use Rattle.stream.specs.Reads as Reads
 use Rattle.stream.specs.Reads.{Read, inputOf, answers-joined}
 use Rattle.stream.specs.Told.{after, texts, told, last, Machine, reads-told}
-use Rattle.celp.specs.State.{reset}
+use Rattle.celp.specs.State.{coldStart}
 use Rattle.hex.specs.declared.Line.{Line}
-use Rattle.hex.specs.Text.{isFrame, tablesRefusedText}
+use Rattle.hex.specs.Text.{isFrame, isOnly, tablesRefusedText}
 use Rattle.hex.specs.File as File
-use Rattle.recording.specs.Recording.{event}
+use Rattle.recording.specs.Recording.{event, isStart}
 use Rattle.recording.specs.Feed as Recording
 use Rattle.hex.specs.Held.{kept, push, heldLine}
 use Rattle.tally.specs.declared.Tally.{Tally}
@@ -31,13 +31,13 @@ use Rattle.term.specs.Term.{isEnd, output, program}
 use Rattle.term.specs.Steps.{place, lineCalled, lineEnded, placed, full-stays, carried-all}
 
 abbrev pub standing : Place → Line → Recorder
-standing p l = record { state = p .state; line = l; tally = p .tally }
+standing p l = record { first = p .first; state = p .state; line = l; tally = p .tally }
 
 -- the start from the table file's bytes: recording's, with an empty tally
 unfoldable pub started : List ℕ → Started
 started file =
     record {
-      recorder = record { state = Recording.started file .recorder .state; line = Recording.started file .recorder .line; tally = tally 0 [] };
+      recorder = record { first = Recording.started file .recorder .first; state = Recording.started file .recorder .state; line = Recording.started file .recorder .line; tally = tally 0 [] };
       number = Recording.started file .number;
       n = Recording.started file .n;
     }
@@ -46,22 +46,22 @@ module _ (words : List ℤ) (bytes : List ℕ) where
   -- a byte more: a newline ends the line
   unfoldable pub fed : Recorder → ℕ → Recorder
   fed r b =
-      cond (eqb b 10) (standing (lineEnded words bytes (r .state) (r .tally) (heldLine (r .line))) (kept []))
-      (record { state = r .state; line = push (r .line) b; tally = r .tally })
+      cond (eqb b 10) (standing (lineEnded words bytes (r .first) (r .state) (r .tally) (heldLine (r .line))) (kept []))
+      (record { first = r .first; state = r .state; line = push (r .line) b; tally = r .tally })
 
   -- the tally where the input ends: a line that is open is a line, unless nothing stands in it
   unfoldable pub endTally : Recorder → Tally
-  endTally r = cond (eqb (r .line .n) 0) (r .tally) (lineEnded words bytes (r .state) (r .tally) (heldLine (r .line)) .tally)
+  endTally r = cond (eqb (r .line .n) 0) (r .tally) (lineEnded words bytes (r .first) (r .state) (r .tally) (heldLine (r .line)) .tally)
 
   abbrev pub ending : Recorder → List ℕ
   ending r = report (endTally r)
 
   -- ---- a turn of the loop
-  pub fed-newline : (r : Recorder) {b : ℕ} → b ≡ 10 → fed r b ≡ standing (lineEnded words bytes (r .state) (r .tally) (heldLine (r .line))) (kept [])
+  pub fed-newline : (r : Recorder) {b : ℕ} → b ≡ 10 → fed r b ≡ standing (lineEnded words bytes (r .first) (r .state) (r .tally) (heldLine (r .line))) (kept [])
   unfolding fed
   fed-newline r {b} e = rw (eq-eqb b 10 e)
 
-  pub fed-other : (r : Recorder) {b : ℕ} → (b ≡ 10 → ⊥) → fed r b ≡ record { state = r .state; line = push (r .line) b; tally = r .tally }
+  pub fed-other : (r : Recorder) {b : ℕ} → (b ≡ 10 → ⊥) → fed r b ≡ record { first = r .first; state = r .state; line = push (r .line) b; tally = r .tally }
   unfolding fed
   fed-other r {b} h = rw (ne-eqb b 10 h)
 
@@ -79,7 +79,7 @@ module _ (words : List ℤ) (bytes : List ℕ) where
   at p line = standing p (kept line)
 
   step-long : (p : Place) (line : List ℕ) → 40 < length line → placed words bytes p line ≡ placed words bytes p (zeros 41)
-  unfolding lineEnded lineCalled event isFrame isEnd
+  unfolding lineEnded lineCalled event isFrame isEnd isStart isOnly
   step-long p line h = rw (ne-eqb (length line) 40 (λ e. omega arith), ne-eqb (length line) 1 (λ e. omega arith))
 
   step-held : (p : Place) (line : List ℕ) → placed words bytes p (heldLine (kept line)) ≡ placed words bytes p line
@@ -124,17 +124,17 @@ module _ (words : List ℤ) (bytes : List ℕ) where
   unfolding fed
   full-fed r b e = by (eqb b 10)
     where
-      by : (newline : Bool) → cond newline (standing (lineEnded words bytes (r .state) (r .tally) (heldLine (r .line))) (kept [])) (record { state = r .state; line = push (r .line) b; tally = r .tally }) .tally ≡ r .tally
-      by true = ap (λ (p : Place). p .tally) (full-stays words bytes (r .state) (r .tally) (heldLine (r .line)) e)
+      by : (newline : Bool) → cond newline (standing (lineEnded words bytes (r .first) (r .state) (r .tally) (heldLine (r .line))) (kept [])) (record { first = r .first; state = r .state; line = push (r .line) b; tally = r .tally }) .tally ≡ r .tally
+      by true = ap (λ (p : Place). p .tally) (full-stays words bytes (r .first) (r .state) (r .tally) (heldLine (r .line)) e)
       by false = refl
 
   full-end : (r : Recorder) → full (r .tally) ≡ true → endTally r ≡ r .tally
   unfolding endTally
   full-end r e = by (eqb (r .line .n) 0)
     where
-      by : (none : Bool) → cond none (r .tally) (lineEnded words bytes (r .state) (r .tally) (heldLine (r .line)) .tally) ≡ r .tally
+      by : (none : Bool) → cond none (r .tally) (lineEnded words bytes (r .first) (r .state) (r .tally) (heldLine (r .line)) .tally) ≡ r .tally
       by true = refl
-      by false = ap (λ (p : Place). p .tally) (full-stays words bytes (r .state) (r .tally) (heldLine (r .line)) e)
+      by false = ap (λ (p : Place). p .tally) (full-stays words bytes (r .first) (r .state) (r .tally) (heldLine (r .line)) e)
 
   full-all : (r : Recorder) (input : List ℕ) → full (r .tally) ≡ true → fedAll fed r input .tally ≡ r .tally
   unfolding fedAll
@@ -178,11 +178,11 @@ module _ (file : List ℕ) where
   unfoldable pub told-by : List Read → List ℕ
   told-by reads = Recording.startText file ++ cond (eqb (started file .number) 0) (endingBy (fedReads (File.words file) (File.bytes file) (started file .recorder) reads)) []
 
-  by-number : (n : ℕ) (reads : List Read) → Recording.startTextBy n ++ cond (eqb (Recording.startedBy n file .number) 0) (endingBy (fedReads (File.words file) (File.bytes file) (record { state = Recording.startedBy n file .recorder .state; line = Recording.startedBy n file .recorder .line; tally = tally 0 [] }) reads)) [] ≡ output n file (inputOf reads)
+  by-number : (n : ℕ) (reads : List Read) → Recording.startTextBy n ++ cond (eqb (Recording.startedBy n file .number) 0) (endingBy (fedReads (File.words file) (File.bytes file) (record { first = Recording.startedBy n file .recorder .first; state = Recording.startedBy n file .recorder .state; line = Recording.startedBy n file .recorder .line; tally = tally 0 [] }) reads)) [] ≡ output n file (inputOf reads)
   unfolding Recording.startTextBy Recording.startedBy Recording.begin output
   by-number zero reads =
-      reads-fed (File.words file) (File.bytes file) (at (File.words file) (File.bytes file) (place (reset (File.words file) (File.bytes file) .state) (tally 0 [])) []) reads
-      ∙ report-told (File.words file) (File.bytes file) (place (reset (File.words file) (File.bytes file) .state) (tally 0 [])) reads
+      reads-fed (File.words file) (File.bytes file) (at (File.words file) (File.bytes file) (place true (coldStart (File.words file) (File.bytes file) .state) (tally 0 [])) []) reads
+      ∙ report-told (File.words file) (File.bytes file) (place true (coldStart (File.words file) (File.bytes file) .state) (tally 0 [])) reads
       ∙ ap report (carried-all (File.words file) (File.bytes file) (lines (inputOf reads)))
   by-number (suc n) reads = rw (ne-eqb (suc n) 0 (λ e. omega arith)) (append-nil (tablesRefusedText (suc n)))
 

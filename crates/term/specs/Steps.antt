@@ -2,7 +2,7 @@
 use Prim.Native.Nat.{ℕ, zero, suc, _+_, _-_, _*_, _≤_, _<_}
 use mathlib.Core.Path.{_≡_, refl, sym, ap, _∙_}
 use mathlib.Core.List.{List, [], _∷_, _++_, append-assoc, append-nil}
-use mathlib.Core.Bool.{Bool, true, false, cond}
+use mathlib.Core.Bool.{Bool, true, false, cond, _&&_}
 use native.Mathlib.Omega.{arith}
 use lib.Dec.{eqb, leb}
 use lib.IntN.{ℤ}
@@ -12,61 +12,84 @@ use native.Mathlib.Nat.{add-zero, zero-add}
 use borrow.Author.Tests.{leb-true, leb-false}
 use Rattle.frame.specs.Frame as Frame
 use Rattle.celp.specs.declared.State.{State}
-use Rattle.celp.specs.State.{reset}
+use Rattle.celp.specs.State.{reset, coldStart}
 use Rattle.celp.specs.Celp as Celp
 use Rattle.celp.specs.Run.{Event, heard, missed, step}
 use Rattle.stream.specs.Told.{after}
-use Rattle.recording.specs.Recording.{event, lineStep}
+use Rattle.recording.specs.Recording.{event, lineStep, isStart, opening}
 use Rattle.tally.specs.declared.Tally.{Tally}
 use Rattle.tally.specs.Figures.{Outcome, subframesOf, tally, LIMIT, full}
-use Rattle.tally.specs.Carried.{withOutcome, ended}
-use Rattle.tally.specs.Added.{subframes-append, tally-more, tally-ended}
+use Rattle.tally.specs.Carried.{withOutcome, uncounted}
+use Rattle.tally.specs.Added.{subframes-append, tally-more, tally-uncounted}
 use Rattle.term.specs.declared.Place.{Place}
 use Rattle.term.specs.Term.{isEnd, recordings, answered, outcome, outcomesFrom, outcomesOf, joined, outcomes, tallyOf}
 
-abbrev pub place : State → Tally → Place
-place s t = record { state = s; tally = t }
+abbrev pub place : Bool → State → Tally → Place
+place first s t = record { first = first; state = s; tally = t }
 
 module _ (words : List ℤ) (bytes : List ℕ) where
   -- a call, counted
   unfoldable pub called : State → Tally → Event → Place
-  called s t e = place (step words bytes s e) (withOutcome t (outcome words bytes s e))
+  called s t e = place false (step words bytes s e) (withOutcome t (outcome words bytes s e))
 
   unfoldable pub lineCalled : State → Tally → List ℕ → Place
   lineCalled s t line = called s t (event line)
 
-  -- the end of a line
-  unfoldable pub lineEnded : State → Tally → List ℕ → Place
-  lineEnded s t line = cond (full t) (place s t) (cond (isEnd line) (place (reset words bytes .state) (ended t)) (lineCalled s t line))
+  -- the end of a line: `=` ends a recording, and a first `+` opens one; both are lines that are read, and no figure has them
+  unfoldable pub lineEnded : Bool → State → Tally → List ℕ → Place
+  lineEnded first s t line =
+      cond (full t) (place first s t)
+      (cond (isEnd line) (place true (coldStart words bytes .state) (uncounted t))
+      (cond (first && isStart line) (place false (reset words bytes .state) (uncounted t)) (lineCalled s t line)))
 
   abbrev pub placed : Place → List ℕ → Place
-  placed p line = lineEnded (p .state) (p .tally) line
+  placed p line = lineEnded (p .first) (p .state) (p .tally) line
 
   -- one that is full stays as it is
-  pub full-stays : (s : State) (t : Tally) (line : List ℕ) → full t ≡ true → lineEnded s t line ≡ place s t
+  pub full-stays : (first : Bool) (s : State) (t : Tally) (line : List ℕ) → full t ≡ true → lineEnded first s t line ≡ place first s t
   unfolding lineEnded
-  full-stays s t line e = rw e
+  full-stays first s t line e = rw e
 
-  -- ---- the outcomes of all lines, one after the other: `=` goes back to reset
-  walk : State → List (List ℕ) → List Outcome
-  walk s [] = []
-  walk s (l ∷ ls) = cond (isEnd l) (walk (reset words bytes .state) ls) (outcome words bytes s (event l) ∷ walk (lineStep words bytes s l) ls)
+  -- ---- the outcomes of all lines, one after the other, where the next line is a recording's first or not
+  unfoldable pub walk : Bool → State → List (List ℕ) → List Outcome
+  walk first s [] = []
+  walk first s (l ∷ ls) =
+      cond (isEnd l) (walk true (coldStart words bytes .state) ls)
+      (cond (first && isStart l) (walk false (reset words bytes .state) ls)
+      (outcome words bytes s (event l) ∷ walk false (lineStep words bytes s l) ls))
 
-  walked : (s : State) (ls : List (List ℕ)) → outcomesFrom words bytes s (recordings ls .first) ++ joined words bytes (recordings ls .more) ≡ walk s ls
-  unfolding walk outcomesFrom recordings joined outcomesOf
-  walked s [] = refl
-  walked s (l ∷ ls) = by (isEnd l) refl (walked (reset words bytes .state) ls) (walked (lineStep words bytes s l) ls)
-    where
-      Walked : State → List (List ℕ) → Type 0
-      Walked s ls = outcomesFrom words bytes s (recordings ls .first) ++ joined words bytes (recordings ls .more) ≡ walk s ls
+  -- those of lines inside a recording, and from a recording's first on
+  abbrev Inside : List (List ℕ) → Type 0
+  Inside ls = (s : State) → outcomesFrom words bytes s (recordings ls .first) ++ joined words bytes (recordings ls .more) ≡ walk false s ls
 
-      by : (t : Bool) → isEnd l ≡ t → Walked (reset words bytes .state) ls → Walked (lineStep words bytes s l) ls → Walked s (l ∷ ls)
-      by true e h k = rw e h
-      by false e h k = rw e (ap (λ (os : List Outcome). outcome words bytes s (event l) ∷ os) k)
+  abbrev First : List (List ℕ) → Type 0
+  First ls = outcomes words bytes ls ≡ walk true (coldStart words bytes .state) ls
 
-  all-walked : (ls : List (List ℕ)) → outcomes words bytes ls ≡ walk (reset words bytes .state) ls
-  unfolding outcomes joined outcomesOf
-  all-walked ls = walked (reset words bytes .state) ls
+  module _ (l : List ℕ) (ls : List (List ℕ)) (h : Inside ls) (k : First ls) where
+    inside-more : Inside (l ∷ ls)
+    unfolding walk outcomesFrom recordings outcomes joined
+    inside-more s = by (isEnd l) refl
+      where
+        by : (t : Bool) → isEnd l ≡ t → outcomesFrom words bytes s (recordings (l ∷ ls) .first) ++ joined words bytes (recordings (l ∷ ls) .more) ≡ walk false s (l ∷ ls)
+        by true e = rw e k
+        by false e = rw e (ap (λ (os : List Outcome). outcome words bytes s (event l) ∷ os) (h (lineStep words bytes s l)))
+
+    first-more : First (l ∷ ls)
+    unfolding walk outcomesFrom recordings outcomes joined outcomesOf opening
+    first-more = by (isEnd l) (isStart l) refl refl
+      where
+        by : (t u : Bool) → isEnd l ≡ t → isStart l ≡ u → outcomes words bytes (l ∷ ls) ≡ walk true (coldStart words bytes .state) (l ∷ ls)
+        by true u e f = rw e k
+        by false true e f = rw (e, f) (h (reset words bytes .state))
+        by false false e f = rw (e, f) (ap (λ (os : List Outcome). outcome words bytes (coldStart words bytes .state) (event l) ∷ os) (h (lineStep words bytes (coldStart words bytes .state) l)))
+
+  walked : (ls : List (List ℕ)) → Inside ls × First ls
+  unfolding walk outcomesFrom recordings outcomes joined outcomesOf opening
+  walked [] = ((λ s. refl), refl)
+  walked (l ∷ ls) = let w = walked ls in (inside-more l ls (w .0) (w .1), first-more l ls (w .0) (w .1))
+
+  pub all-walked : (ls : List (List ℕ)) → First ls
+  all-walked ls = walked ls .1
 
   -- decode answers four subframes, so an outcome has at most as many
   pub decode-four : (s : State) (payload : List ℕ) (room : ℕ) → length (Celp.decode words bytes s payload room .subframes) ≡ 4
@@ -90,8 +113,8 @@ module _ (words : List ℤ) (bytes : List ℕ) where
   abbrev left : ℕ → List (List ℕ) → List (List ℕ)
   left n ls = take (LIMIT - n) ls
 
-  abbrev Added : State → ℕ → List Outcome → List (List ℕ) → Type 0
-  Added s n os ls = after (placed) (place s (tally n os)) ls .tally ≡ tally (n + length (left n ls)) (os ++ walk s (left n ls))
+  abbrev Added : Bool → State → ℕ → List Outcome → List (List ℕ) → Type 0
+  Added first s n os ls = after (placed) (place first s (tally n os)) ls .tally ≡ tally (n + length (left n ls)) (os ++ walk first s (left n ls))
 
   -- what lists keep to by line n
   pub record Kept (n : ℕ) (os : List Outcome) : Type 0 where
@@ -115,35 +138,40 @@ module _ (words : List ℤ) (bytes : List ℕ) where
   full-at n os = refl
 
   -- a line more, where it is shown of those that follow it
-  module _ (ls : List (List ℕ)) (then : (s : State) (n : ℕ) (os : List Outcome) → Kept n os → Added s n os ls) (s : State) (n : ℕ) (os : List Outcome) (k : Kept n os) (l : List ℕ) where
+  module _ (ls : List (List ℕ)) (then : (first : Bool) (s : State) (n : ℕ) (os : List Outcome) → Kept n os → Added first s n os ls) (first : Bool) (s : State) (n : ℕ) (os : List Outcome) (k : Kept n os) (l : List ℕ) where
     abbrev o : Outcome
     o = outcome words bytes s (event l)
 
-    more : (isFull ends : Bool) → full (tally n os) ≡ isFull → isEnd l ≡ ends → after placed (placed (place s (tally n os)) l) ls .tally ≡ tally (n + length (left n (l ∷ ls))) (os ++ walk s (left n (l ∷ ls)))
+    more : (isFull ends opens : Bool) → full (tally n os) ≡ isFull → isEnd l ≡ ends → first && isStart l ≡ opens → after placed (placed (place first s (tally n os)) l) ls .tally ≡ tally (n + length (left n (l ∷ ls))) (os ++ walk first s (left n (l ∷ ls)))
     unfolding lineEnded walk lineCalled called lineStep
-    more true ends e f =
+    more true ends opens e f g =
         let z : LIMIT - n ≡ 0 = let p = leb-true LIMIT n (sym (full-at n os) ∙ e) in omega arith in
-        rw (e, then s n os k, z)
-    more false true e f =
+        rw (e, then first s n os k, z)
+    more false true opens e f g =
         let p = leb-false LIMIT n (sym (full-at n os) ∙ e) in
         let z : LIMIT - n ≡ suc (LIMIT - (n + 1)) = omega arith in
         let r : n + 1 + length (left (n + 1) ls) ≡ n + suc (length (left (n + 1) ls)) = omega arith in
-        rw (e, f, tally-ended n os (omega arith), then (reset words bytes .state) (n + 1) os (kept-end k p), z, f, r)
-    more false false e f =
+        rw (e, f, tally-uncounted n os (omega arith), then true (coldStart words bytes .state) (n + 1) os (kept-end k p), z, f, r)
+    more false false true e f g =
+        let p = leb-false LIMIT n (sym (full-at n os) ∙ e) in
+        let z : LIMIT - n ≡ suc (LIMIT - (n + 1)) = omega arith in
+        let r : n + 1 + length (left (n + 1) ls) ≡ n + suc (length (left (n + 1) ls)) = omega arith in
+        rw (e, f, g, tally-uncounted n os (omega arith), then false (reset words bytes .state) (n + 1) os (kept-end k p), z, f, g, r)
+    more false false false e f g =
         let p = leb-false LIMIT n (sym (full-at n os) ∙ e) in
         let z : LIMIT - n ≡ suc (LIMIT - (n + 1)) = omega arith in
         let r : n + 1 + length (left (n + 1) ls) ≡ n + suc (length (left (n + 1) ls)) = omega arith in
         let q = few s (event l) in
-        rw (e, f, tally-more n os o (omega arith) (omega (arith, k .outcomes-kept)) (omega (arith, k .subframes-kept)), then (step words bytes s (event l)) (n + 1) (os ++ (o ∷ [])) (kept-more k p o q), z, f, r, append-assoc)
+        rw (e, f, g, tally-more n os o (omega arith) (omega (arith, k .outcomes-kept)) (omega (arith, k .subframes-kept)), then false (step words bytes s (event l)) (n + 1) (os ++ (o ∷ [])) (kept-more k p o q), z, f, g, r, append-assoc)
 
-  carried : (ls : List (List ℕ)) (s : State) (n : ℕ) (os : List Outcome) → Kept n os → Added s n os ls
+  carried : (ls : List (List ℕ)) (first : Bool) (s : State) (n : ℕ) (os : List Outcome) → Kept n os → Added first s n os ls
   unfolding after walk
-  carried [] s n os k = rw (take-nil {A = List ℕ} (LIMIT - n), append-nil, add-zero)
-  carried (l ∷ ls) s n os k = more ls (carried ls) s n os k l (full (tally n os)) (isEnd l) refl refl
+  carried [] first s n os k = rw (take-nil {A = List ℕ} (LIMIT - n), append-nil, add-zero)
+  carried (l ∷ ls) first s n os k = more ls (carried ls) first s n os k l (full (tally n os)) (isEnd l) (first && isStart l) refl refl refl
 
   -- from an empty tally
-  pub carried-all : (ls : List (List ℕ)) → after placed (place (reset words bytes .state) (tally 0 [])) ls .tally ≡ tallyOf words bytes (take LIMIT ls)
+  pub carried-all : (ls : List (List ℕ)) → after placed (place true (coldStart words bytes .state) (tally 0 [])) ls .tally ≡ tallyOf words bytes (take LIMIT ls)
   unfolding tallyOf subframesOf
   carried-all ls =
       let k : Kept 0 [] = record { lines-kept = omega arith; outcomes-kept = omega arith; subframes-kept = omega arith } in
-      carried ls (reset words bytes .state) 0 [] k ∙ rw (all-walked (take LIMIT ls), zero-add (length (take LIMIT ls)))
+      carried ls true (coldStart words bytes .state) 0 [] k ∙ rw (all-walked (take LIMIT ls), zero-add (length (take LIMIT ls)))

@@ -2,19 +2,18 @@
 use Prim.Native.Nat.{ℕ, zero, suc}
 use mathlib.Core.Path.{_≡_, refl}
 use mathlib.Core.List.{List, [], _∷_, _++_}
-use mathlib.Core.Bool.{Bool, true, false, cond, _&&_}
+use mathlib.Core.Bool.{Bool, true, false, cond}
 use lib.Dec.{eqb}
 use lib.IntN.{ℤ}
-use lib.ListN.{length, getD, take}
+use lib.ListN.{length, take}
 use Rattle.stream.specs.Lines.{lines}
 use Rattle.celp.specs.declared.State.{State}
 use Rattle.celp.specs.declared.Answer.{Answer}
-use Rattle.celp.specs.State.{reset}
 use Rattle.celp.specs.Celp as Celp
 use Rattle.celp.specs.Run.{Event, heard, missed}
-use Rattle.hex.specs.Text.{tablesRefusedText}
+use Rattle.hex.specs.Text.{isOnly, tablesRefusedText}
 use Rattle.hex.specs.File as File
-use Rattle.recording.specs.Recording.{event, lineStep}
+use Rattle.recording.specs.Recording.{event, lineStep, opening}
 use Rattle.tally.specs.declared.Tally.{Tally}
 use Rattle.tally.specs.Figures.{Outcome, tally, LIMIT}
 use Rattle.term_text.specs.Report.{report}
@@ -22,11 +21,11 @@ use Rattle.term_text.specs.Report.{report}
 -- ---- recordings
 -- a line that ends one: `=` and nothing else
 unfoldable pub isEnd : List ℕ → Bool
-isEnd line = eqb (length line) 1 && eqb (getD line 0 0) 61
+isEnd line = isOnly 61 line
 
 -- `=`, and what is none: an empty line, `==` and ` =`
 ends : (isEnd (61 ∷ []) ≡ true) × (isEnd [] ≡ false) × (isEnd (61 ∷ 61 ∷ []) ≡ false) × (isEnd (32 ∷ 61 ∷ []) ≡ false)
-unfolding isEnd
+unfolding isEnd isOnly
 ends = (refl, refl, refl, refl)
 
 -- the lines before the first `=`, and those between and behind: a recording for each, which may be empty
@@ -42,11 +41,11 @@ recordings (l ∷ ls) =
 
 -- `7`, `=`, `=`, `8` are three, the second of which is empty; a last `=` leaves an empty one behind it
 three : recordings ((55 ∷ []) ∷ (61 ∷ []) ∷ (61 ∷ []) ∷ (56 ∷ []) ∷ []) ≡ record { first = (55 ∷ []) ∷ []; more = [] ∷ ((56 ∷ []) ∷ []) ∷ [] }
-unfolding recordings isEnd
+unfolding recordings isEnd isOnly
 three = refl
 
 last-end : recordings ((55 ∷ []) ∷ (61 ∷ []) ∷ []) ≡ record { first = (55 ∷ []) ∷ []; more = [] ∷ [] }
-unfolding recordings isEnd
+unfolding recordings isEnd isOnly
 last-end = refl
 
 -- ---- outcomes
@@ -63,9 +62,9 @@ unfoldable pub outcomesFrom : List ℤ → List ℕ → State → List (List ℕ
 outcomesFrom words bytes s [] = []
 outcomesFrom words bytes s (l ∷ ls) = outcome words bytes s (event l) ∷ outcomesFrom words bytes (lineStep words bytes s l) ls
 
--- of a recording: it starts from reset
+-- of a recording: of the lines that its opening leaves, a first `+` being none of them
 unfoldable pub outcomesOf : List ℤ → List ℕ → List (List ℕ) → List Outcome
-outcomesOf words bytes recording = outcomesFrom words bytes (reset words bytes .state) recording
+outcomesOf words bytes recording = outcomesFrom words bytes (opening words bytes recording .state) (opening words bytes recording .lines)
 
 -- of recordings one after the other
 unfoldable pub joined : List ℤ → List ℕ → List (List (List ℕ)) → List Outcome

@@ -10,21 +10,22 @@ ghost use Rattle.hex.specs.Held as Held;
 ghost use Rattle.recording.specs.Feed as Recording;
 ghost use Rattle.hex.specs.File as File;
 ghost use Rattle.tally.specs.Figures as Figures;
-ghost use Rattle.term.specs.Term as Term;
 ghost use Rattle.term.specs.Steps as Steps;
 ghost use Rattle.term.specs.Feed as Feed;
 use celp::State;
 use hex::Line;
 use tally::Tally;
 
-// Where the input stands between two lines: the decoder's state, and the tally.
+// Where the input stands between two lines: whether a recording's first line is to come, the decoder's state, and the tally.
 pub struct Place {
+    pub first: bool,
     pub state: State,
     pub tally: Tally,
 }
 
 // Where it stands in a line.
 pub struct Recorder {
+    pub first: bool,
     pub state: State,
     pub line: Line,
     pub tally: Tally,
@@ -35,17 +36,6 @@ pub struct Started {
     pub recorder: Recorder,
     pub number: u8,
     pub n: usize,
-}
-
-// Whether the line that is held ends a recording.
-fn is_end(line: Line) -> bool
-    ensures { λ r. ⌜ r ≡ Term.isEnd (Held.heldLine line) ⌝ }
-{
-    if line.n != 1 {
-        return false;
-    }
-    let text = line.text;
-    text[0] == b'='
 }
 
 // A frame's call, counted.
@@ -59,18 +49,20 @@ fn hear(words: &[i16], bytes: &[u8], state: State, payload: [u8; 20], tally: Tal
     let t = tally::numbered(tally, number);
     if number != 0 {
         return Place {
+            first: false,
             state: next,
             tally: t,
         };
     }
     let s = a.subframes;
     Place {
+        first: false,
         state: next,
         tally: tally::with_frame(t, s),
     }
 }
 
-// A line that is not `=`: a frame, or a missed one.
+// A line that is a frame, or a missed one.
 fn call(words: &[i16], bytes: &[u8], state: State, line: Line, tally: Tally) -> Place
     ensures { λ r. ⌜ r ≡ Steps.lineCalled (now (words .entry)) (now (bytes .entry)) state tally (Held.heldLine line) ⌝ }
 {
@@ -81,24 +73,46 @@ fn call(words: &[i16], bytes: &[u8], state: State, line: Line, tally: Tally) -> 
     let missed = celp::missed_frame(state);
     let next = missed.state;
     Place {
+        first: false,
         state: next,
         tally: tally::numbered(tally, 9),
     }
 }
 
 // The end of a line. Where the tally is full nothing is counted any more.
-fn end_line(words: &[i16], bytes: &[u8], state: State, line: Line, tally: Tally) -> Place
-    ensures { λ r. ⌜ r ≡ Steps.lineEnded (now (words .entry)) (now (bytes .entry)) state tally (Held.heldLine line) ⌝ }
+fn end_line(
+    words: &[i16],
+    bytes: &[u8],
+    first: bool,
+    state: State,
+    line: Line,
+    tally: Tally,
+) -> Place
+    ensures { λ r. ⌜ r ≡ Steps.lineEnded (now (words .entry)) (now (bytes .entry)) first state tally (Held.heldLine line) ⌝ }
 {
     if tally::full(tally) {
-        return Place { state, tally };
+        return Place {
+            first,
+            state,
+            tally,
+        };
     }
-    if is_end(line) {
-        let start = celp::reset(words, bytes);
+    if hex::is_only(line, b'=') {
+        let start = celp::cold_start(words, bytes);
         let next = start.state;
         return Place {
+            first: true,
             state: next,
-            tally: tally::ended(tally),
+            tally: tally::uncounted(tally),
+        };
+    }
+    if recording::is_opening(first, line) {
+        let whole = celp::reset(words, bytes);
+        let next = whole.state;
+        return Place {
+            first: false,
+            state: next,
+            tally: tally::uncounted(tally),
         };
     }
     call(words, bytes, state, line, tally)
@@ -119,7 +133,12 @@ pub fn begin(file: &[u8], words: &mut [i16], room: &mut [u8]) -> Started
     let line = recorder.line;
     let tally = tally::empty();
     Started {
-        recorder: Recorder { state, line, tally },
+        recorder: Recorder {
+            first: recorder.first,
+            state,
+            line,
+            tally,
+        },
         number: start.number,
         n: start.n,
     }
@@ -128,6 +147,7 @@ pub fn begin(file: &[u8], words: &mut [i16], room: &mut [u8]) -> Started
 fn take_in(words: &[i16], bytes: &[u8], recorder: Recorder, chunk: &[u8]) -> Recorder
     ensures { λ r. ⌜ r ≡ fedAll (Feed.fed (now (words .entry)) (now (bytes .entry))) recorder (now (chunk .entry)) ⌝ }
 {
+    let mut first = recorder.first;
     let mut state = recorder.state;
     let mut line = recorder.line;
     let mut tally = recorder.tally;
@@ -136,7 +156,8 @@ fn take_in(words: &[i16], bytes: &[u8], recorder: Recorder, chunk: &[u8]) -> Rec
         let b = chunk[i];
         i += 1;
         if b == b'\n' {
-            let place = end_line(words, bytes, state, line, tally);
+            let place = end_line(words, bytes, first, state, line, tally);
+            first = place.first;
             state = place.state;
             tally = place.tally;
             line = hex::empty();
@@ -144,7 +165,12 @@ fn take_in(words: &[i16], bytes: &[u8], recorder: Recorder, chunk: &[u8]) -> Rec
             line = hex::push(line, b);
         }
     }
-    Recorder { state, line, tally }
+    Recorder {
+        first,
+        state,
+        line,
+        tally,
+    }
 }
 
 // A chunk of the input.
@@ -173,7 +199,7 @@ fn end_tally(words: &[i16], bytes: &[u8], recorder: Recorder) -> Tally
         return tally;
     }
     let state = recorder.state;
-    let place = end_line(words, bytes, state, line, tally);
+    let place = end_line(words, bytes, recorder.first, state, line, tally);
     place.tally
 }
 

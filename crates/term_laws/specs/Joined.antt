@@ -2,20 +2,21 @@
 use Prim.Native.Nat.{ℕ, _+_, _<_, min, max}
 use mathlib.Core.Path.{_≡_, refl, ap, _∙_}
 use mathlib.Core.List.{List, [], _∷_, _++_, append-nil, map, map-append}
-use mathlib.Core.Bool.{Bool, true, false}
+use mathlib.Core.Bool.{Bool, true, false, _&&_}
 use native.Mathlib.Omega.{arith}
 use lib.IntN.{ℤ}
 use lib.ListN.{length, getD, length-append}
 use Rattle.sequence.specs.Table.{table, getD-table}
 use Rattle.frame.specs.declared.Subframe.{Subframe}
 use Rattle.celp.specs.declared.State.{State}
-use Rattle.celp.specs.State.{reset}
-use Rattle.recording.specs.Recording.{event, lineStep}
+use Rattle.celp.specs.State.{reset, coldStart}
+use Rattle.recording.specs.Recording.{event, lineStep, isStart, opening}
 use Rattle.tally.specs.declared.Subframes.{Subframes}
 use Rattle.tally.specs.declared.Tally.{Tally}
 use Rattle.tally.specs.Figures.{Outcome, howMany, largest, smallest, codeGain, spread, subframesOf, tally}
 use Rattle.tally.specs.Added.{many-append, largest-append, smallest-append, subframes-append}
 use Rattle.term.specs.Term.{isEnd, recordings, outcome, outcomesFrom, outcomesOf, joined, outcomes, tallyOf}
+use Rattle.term.specs.Steps.{walk, all-walked}
 
 -- counts of both, place by place
 abbrev pub Added : ℕ → List ℕ → List ℕ → List ℕ → Type 0
@@ -76,24 +77,21 @@ spread-both ss rs =
 
 -- ---- outcomes
 module _ (words : List ℤ) (bytes : List ℕ) where
-  abbrev from : State → List (List ℕ) → List Outcome
-  from s ls = outcomesFrom words bytes s (recordings ls .first) ++ joined words bytes (recordings ls .more)
+  abbrev Joins : Bool → State → List (List ℕ) → List ℕ → List (List ℕ) → Type 0
+  Joins first s xs end ys = walk words bytes first s (xs ++ (end ∷ ys)) ≡ walk words bytes first s xs ++ walk words bytes true (coldStart words bytes .state) ys
 
-  from-joined : (s : State) (xs : List (List ℕ)) (end : List ℕ) (ys : List (List ℕ)) → isEnd end ≡ true → from s (xs ++ (end ∷ ys)) ≡ from s xs ++ outcomes words bytes ys
-  unfolding outcomesFrom recordings joined outcomesOf outcomes
-  from-joined s [] end ys e = rw e
-  from-joined s (x ∷ xs) end ys e = by (isEnd x) refl (from-joined (reset words bytes .state) xs end ys e) (from-joined (lineStep words bytes s x) xs end ys e)
+  walk-joined : (first : Bool) (s : State) (xs : List (List ℕ)) (end : List ℕ) (ys : List (List ℕ)) → isEnd end ≡ true → Joins first s xs end ys
+  unfolding walk
+  walk-joined first s [] end ys e = rw e
+  walk-joined first s (x ∷ xs) end ys e = by (isEnd x) (first && isStart x) refl refl (walk-joined true (coldStart words bytes .state) xs end ys e) (walk-joined false (reset words bytes .state) xs end ys e) (walk-joined false (lineStep words bytes s x) xs end ys e)
     where
-      Joins : State → List (List ℕ) → Type 0
-      Joins s xs = from s (xs ++ (end ∷ ys)) ≡ from s xs ++ outcomes words bytes ys
-
-      by : (t : Bool) → isEnd x ≡ t → Joins (reset words bytes .state) xs → Joins (lineStep words bytes s x) xs → Joins s (x ∷ xs)
-      by true f h k = rw f h
-      by false f h k = rw f (ap (λ (os : List Outcome). outcome words bytes s (event x) ∷ os) k)
+      by : (ends opens : Bool) → isEnd x ≡ ends → first && isStart x ≡ opens → Joins true (coldStart words bytes .state) xs end ys → Joins false (reset words bytes .state) xs end ys → Joins false (lineStep words bytes s x) xs end ys → Joins first s (x ∷ xs) end ys
+      by true opens f g h j k = rw f h
+      by false true f g h j k = rw (f, g) j
+      by false false f g h j k = rw (f, g) (ap (λ (os : List Outcome). outcome words bytes s (event x) ∷ os) k)
 
   outcomes-joined : (xs : List (List ℕ)) (end : List ℕ) (ys : List (List ℕ)) → isEnd end ≡ true → outcomes words bytes (xs ++ (end ∷ ys)) ≡ outcomes words bytes xs ++ outcomes words bytes ys
-  unfolding outcomes joined outcomesOf
-  outcomes-joined xs end ys e = from-joined (reset words bytes .state) xs end ys e
+  outcomes-joined xs end ys e = rw (all-walked words bytes (xs ++ (end ∷ ys)), all-walked words bytes xs, all-walked words bytes ys) (walk-joined true (coldStart words bytes .state) xs end ys e)
 
   -- THE THEOREM
   pub recordings-independent : (xs : List (List ℕ)) (end : List ℕ) (ys : List (List ℕ)) → isEnd end ≡ true → Both (tallyOf words bytes xs) (tallyOf words bytes ys) (tallyOf words bytes (xs ++ (end ∷ ys)))
@@ -112,5 +110,5 @@ module _ (words : List ℤ) (bytes : List ℕ) where
 
 -- ---- of no input
 pub no-lines : (words : List ℤ) (bytes : List ℕ) → tallyOf words bytes [] ≡ tally 0 []
-unfolding tallyOf outcomes recordings joined outcomesOf outcomesFrom
+unfolding tallyOf outcomes recordings joined outcomesOf outcomesFrom opening
 no-lines words bytes = refl

@@ -27,11 +27,11 @@ use Rattle.frame.specs.Frame as Frame
 use Rattle.celp.specs.declared.State.{State}
 use Rattle.celp.specs.State as State
 use Rattle.celp.specs.Celp as Celp
-use Rattle.celp.specs.Cases.{started-accepted}
-use Rattle.celp.specs.StateRule.{Obeying, initial-obeying, run-obeying}
+use Rattle.celp.specs.Relied.{started-obeying}
+use Rattle.celp.specs.StateRule.{Obeying, run-obeying}
 use Rattle.celp.specs.Run.{heard, missed, run}
 use Rattle.hex.specs.Text as Text
-use Rattle.recording.specs.Recording.{event, lineStep}
+use Rattle.recording.specs.Recording.{event, lineStep, isStart, opening}
 use Rattle.tally.specs.Figures.{Outcome, those, howMany, class, gainIndex, lagOf, subframesOf, answeredWith}
 use Rattle.term.specs.Term.{recordings, answered, outcome, outcomesFrom, outcomesOf, joined, outcomes}
 use Rattle.term_laws.specs.Whole.{whole-back}
@@ -148,9 +148,14 @@ all-append f [] ys e g = g
 all-append f (x ∷ xs) ys e g = rw (and-left (f x) (all f xs) e) (all-append f xs ys (and-right (f x) (all f xs) e) g)
 
 module _ (words : List ℤ) (bytes : List ℕ) (w : Words16 words) (checked : check words bytes ≡ 0) where
-  reset-obeying : Obeying (State.reset words bytes .state)
-  unfolding State.reset
-  reset-obeying = rw (← (started-accepted words bytes 2 checked)) (initial-obeying words bytes w checked 2 refl)
+  opening-obeying : (recording : List (List ℕ)) → Obeying (opening words bytes recording .state)
+  unfolding opening State.reset State.coldStart
+  opening-obeying [] = started-obeying words bytes w checked 0 refl
+  opening-obeying (line ∷ more) = by (isStart line) refl
+    where
+      by : (t : Bool) → isStart line ≡ t → Obeying (opening words bytes (line ∷ more) .state)
+      by true e = rw e (started-obeying words bytes w checked 2 refl)
+      by false e = rw e (started-obeying words bytes w checked 0 refl)
 
   lines-proper : (s : State) → Obeying s → (ls : List (List ℕ)) → all proper (outcomesFrom words bytes s ls) ≡ true
   unfolding outcomesFrom lineStep run
@@ -160,7 +165,7 @@ module _ (words : List ℤ) (bytes : List ℕ) (w : Words16 words) (checked : ch
   recordings-proper : (rs : List (List (List ℕ))) → all proper (joined words bytes rs) ≡ true
   unfolding joined outcomesOf
   recordings-proper [] = refl
-  recordings-proper (r ∷ rs) = all-append proper (outcomesOf words bytes r) (joined words bytes rs) (lines-proper (State.reset words bytes .state) reset-obeying r) (recordings-proper rs)
+  recordings-proper (r ∷ rs) = all-append proper (outcomesOf words bytes r) (joined words bytes rs) (lines-proper (opening words bytes r .state) (opening-obeying r) (opening words bytes r .lines)) (recordings-proper rs)
 
   pub outcomes-proper : (ls : List (List ℕ)) → all proper (outcomes words bytes ls) ≡ true
   unfolding outcomes

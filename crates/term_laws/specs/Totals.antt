@@ -1,8 +1,8 @@
 -- The figures of a report: what they sum to.
 use Prim.Native.Nat.{ℕ, suc, _+_, _*_}
 use mathlib.Core.Path.{_≡_, refl, sym, ap, _∙_}
-use mathlib.Core.List.{List, [], _∷_, _++_}
-use mathlib.Core.Bool.{Bool, true, false, not, _&&_}
+use mathlib.Core.List.{List, [], _∷_}
+use mathlib.Core.Bool.{Bool, true, false, cond, _&&_}
 use native.Mathlib.Nat.{zero-add}
 use lib.Dec.{eqb}
 use lib.IntN.{ℤ}
@@ -13,30 +13,42 @@ use Rattle.tables.specs.Tables.{check}
 use Rattle.spectral.specs.Kept.{Words16}
 use Rattle.frame.specs.declared.Subframe.{Subframe}
 use Rattle.celp.specs.declared.State.{State}
-use Rattle.celp.specs.State.{reset}
-use Rattle.recording.specs.Recording.{lineStep}
-use Rattle.tally.specs.Figures.{Outcome, those, howMany, class, gainIndex, spread, tally}
-use Rattle.term.specs.Term.{isEnd, recordings, outcomesFrom, outcomesOf, joined, outcomes, tallyOf}
+use Rattle.celp.specs.State.{reset, coldStart}
+use Rattle.hex.specs.Text.{isOnly}
+use Rattle.recording.specs.Recording.{event, lineStep, isStart}
+use Rattle.tally.specs.Figures.{howMany, class, gainIndex, spread, tally}
+use Rattle.term.specs.Term.{isEnd, outcome, outcomes, tallyOf}
+use Rattle.term.specs.Steps.{walk, all-walked}
 use Rattle.term_laws.specs.Sums.{sum, inRange, counts-sum}
 use Rattle.term_laws.specs.Outcomes.{placed, lagIn, outcomes-proper, numbers-sum, four-each, all-placed}
 
--- a line has an outcome, unless it is `=`
+-- the lines apart from each `=` and each first `+`, where the next line is a recording's first or not
+unfoldable pub apart : Bool → List (List ℕ) → List (List ℕ)
+apart first [] = []
+apart first (l ∷ ls) = cond (isEnd l) (apart true ls) (cond (first && isStart l) (apart false ls) (l ∷ apart false ls))
+
+-- of `+`, `+`, `=`, `+`, `7` the second and the last
+two-left : apart true ((43 ∷ []) ∷ (43 ∷ []) ∷ (61 ∷ []) ∷ (43 ∷ []) ∷ (55 ∷ []) ∷ []) ≡ (43 ∷ []) ∷ (55 ∷ []) ∷ []
+unfolding apart isEnd isStart isOnly
+two-left = refl
+
+-- each of them has an outcome
 module _ (words : List ℤ) (bytes : List ℕ) where
-  abbrev from : State → List (List ℕ) → List Outcome
-  from s ls = outcomesFrom words bytes s (recordings ls .first) ++ joined words bytes (recordings ls .more)
-
-  from-long : (s : State) (ls : List (List ℕ)) → length (from s ls) ≡ howMany (λ (l : List ℕ). not (isEnd l)) ls
-  unfolding outcomesFrom recordings joined outcomesOf those
-  from-long s [] = refl
-  from-long s (l ∷ ls) = by (isEnd l) refl (from-long (reset words bytes .state) ls) (from-long (lineStep words bytes s l) ls)
+  walk-long : (first : Bool) (s : State) (ls : List (List ℕ)) → length (walk words bytes first s ls) ≡ length (apart first ls)
+  unfolding walk apart
+  walk-long first s [] = refl
+  walk-long first s (l ∷ ls) = by (isEnd l) (first && isStart l) (walk-long true (coldStart words bytes .state) ls) (walk-long false (reset words bytes .state) ls) (walk-long false (lineStep words bytes s l) ls)
     where
-      by : (t : Bool) → isEnd l ≡ t → length (from (reset words bytes .state) ls) ≡ howMany (λ (m : List ℕ). not (isEnd m)) ls → length (from (lineStep words bytes s l) ls) ≡ howMany (λ (m : List ℕ). not (isEnd m)) ls → length (from s (l ∷ ls)) ≡ howMany (λ (m : List ℕ). not (isEnd m)) (l ∷ ls)
-      by true e h k = rw e h
-      by false e h k = rw e (ap suc k)
+      Long : Bool → State → Type 0
+      Long f t = length (walk words bytes f t ls) ≡ length (apart f ls)
 
-  outcomes-long : (ls : List (List ℕ)) → length (outcomes words bytes ls) ≡ howMany (λ (l : List ℕ). not (isEnd l)) ls
-  unfolding outcomes joined outcomesOf
-  outcomes-long ls = from-long (reset words bytes .state) ls
+      by : (ends opens : Bool) → Long true (coldStart words bytes .state) → Long false (reset words bytes .state) → Long false (lineStep words bytes s l) → length (cond ends (walk words bytes true (coldStart words bytes .state) ls) (cond opens (walk words bytes false (reset words bytes .state) ls) (outcome words bytes s (event l) ∷ walk words bytes false (lineStep words bytes s l) ls))) ≡ length (cond ends (apart true ls) (cond opens (apart false ls) (l ∷ apart false ls)))
+      by true opens h j k = h
+      by false true h j k = j
+      by false false h j k = ap suc k
+
+  outcomes-long : (ls : List (List ℕ)) → length (outcomes words bytes ls) ≡ length (apart true ls)
+  outcomes-long ls = ap length (all-walked words bytes ls) ∙ walk-long true (coldStart words bytes .state) ls
 
 -- the three tables of a list of subframes that each have their places
 all-so : {A : Type 0} (f g : A → Bool) → ((x : A) → f x ≡ true → g x ≡ true) → (xs : List A) → all f xs ≡ true → all g xs ≡ true
@@ -82,8 +94,8 @@ module _ (ss : List Subframe) (e : all placed ss ≡ true) where
 
 -- ---- THE THEOREMS, of any lines over a checked set
 module _ (words : List ℤ) (bytes : List ℕ) (w : Words16 words) (checked : check words bytes ≡ 0) (ls : List (List ℕ)) where
-  -- accepted and refused are the lines, apart from `=`: no line is refused with another number than 6, 7 and 9
-  pub accepted-and-refused : tallyOf words bytes ls .accepted + tallyOf words bytes ls .«refused_6» + tallyOf words bytes ls .«refused_7» + tallyOf words bytes ls .«refused_9» ≡ howMany (λ (l : List ℕ). not (isEnd l)) ls
+  -- accepted and refused are the lines apart from each `=` and each first `+`: no line is refused with another number than 6, 7 and 9
+  pub accepted-and-refused : tallyOf words bytes ls .accepted + tallyOf words bytes ls .«refused_6» + tallyOf words bytes ls .«refused_7» + tallyOf words bytes ls .«refused_9» ≡ length (apart true ls)
   unfolding tallyOf tally
   accepted-and-refused = numbers-sum (outcomes words bytes ls) (outcomes-proper words bytes w checked ls) ∙ outcomes-long words bytes ls
 

@@ -10,6 +10,7 @@ use term::Recorder;
 fn near(recorder: Recorder) -> Recorder {
     let state = recorder.state;
     let line = recorder.line;
+    let first = recorder.first;
     let tally = Tally {
         lines: 4294967293,
         accepted: 4294967000,
@@ -25,7 +26,12 @@ fn near(recorder: Recorder) -> Recorder {
             smallest: 5,
         },
     };
-    Recorder { state, line, tally }
+    Recorder {
+        first,
+        state,
+        line,
+        tally,
+    }
 }
 
 fn begun(recorder: Recorder, is_near: bool) -> Recorder {

@@ -1,5 +1,5 @@
 // Prints every figure of every frame of a recording, a line a part: numbers in decimal, floats by their bits.
-// tables.bin lies beside it, the recording comes on standard input, and it starts at reset.
+// tables.bin lies beside it, the recording comes on standard input, and the state that it starts in, decode's, is said first.
 // A line `digest NAME` begins another recording, with the table file of that name, and from there on 32 bits stand for each part.
 use celp::Answer;
 use celp::State;
@@ -92,7 +92,7 @@ fn answer_parts(a: Answer, samples: &[i16], digest: bool) {
     subframe_part(subframes[3], digest);
 }
 
-// A line of the recording is over: the state after it.
+// A line's call: the state after it.
 fn heard(words: &[i16], bytes: &[u8], state: State, line: Line, digest: bool) -> State {
     if hex::held_frame(line) {
         let text = line.text;
@@ -109,6 +109,35 @@ fn heard(words: &[i16], bytes: &[u8], state: State, line: Line, digest: bool) ->
     let next = missed.state;
     state_part(next, digest);
     next
+}
+
+// A line is over: the state after it. With the first it is known, and said, which state the recording starts in: reset's where that line is `+`.
+fn line_over(
+    words: &[i16],
+    bytes: &[u8],
+    first: bool,
+    state: State,
+    line: Line,
+    digest: bool,
+) -> State {
+    if !first {
+        return heard(words, bytes, state, line, digest);
+    }
+    if hex::is_only(line, b'+') {
+        let start = celp::reset(words, bytes);
+        let next = start.state;
+        state_part(next, digest);
+        return next;
+    }
+    state_part(state, digest);
+    heard(words, bytes, state, line, digest)
+}
+
+// The end of a recording: one without a line starts cold.
+fn ended(first: bool, state: State, digest: bool) {
+    if first {
+        state_part(state, digest);
+    }
 }
 
 fn put_bytes(file: &[u8; 15835], bytes: &mut [u8; 3908]) {
@@ -160,24 +189,24 @@ fn read_named(text: &[u8], n: usize, words: &mut [i16; 5963], bytes: &mut [u8; 3
     }
 }
 
-// Another recording begins, from reset.
+// Another recording begins.
 fn headed(line: Line, words: &mut [i16; 5963], bytes: &mut [u8; 3908]) -> State {
     let text = line.text;
     read_named(&text, line.n, words, bytes);
-    let start = celp::reset(words, bytes);
-    let first = start.state;
-    state_part(first, true);
-    first
+    let start = celp::cold_start(words, bytes);
+    start.state
 }
 
 // What is carried from byte to byte.
 struct Carried {
+    first: bool,
     state: State,
     line: Line,
     digest: bool,
 }
 
 fn taken(words: &mut [i16; 5963], bytes: &mut [u8; 3908], c: Carried, s: &[u8]) -> Carried {
+    let mut first = c.first;
     let mut state = c.state;
     let mut line = c.line;
     let mut digest = c.digest;
@@ -187,10 +216,13 @@ fn taken(words: &mut [i16; 5963], bytes: &mut [u8; 3908], c: Carried, s: &[u8]) 
         i += 1;
         if b == b'\n' {
             if is_heading(line) {
+                ended(first, state, digest);
                 state = headed(line, words, bytes);
+                first = true;
                 digest = true;
             } else {
-                state = heard(words, bytes, state, line, digest);
+                state = line_over(words, bytes, first, state, line, digest);
+                first = false;
             }
             line = hex::empty();
         } else {
@@ -198,6 +230,7 @@ fn taken(words: &mut [i16; 5963], bytes: &mut [u8; 3908], c: Carried, s: &[u8]) 
         }
     }
     Carried {
+        first,
         state,
         line,
         digest,
@@ -220,13 +253,13 @@ fn read_some(words: &mut [i16; 5963], bytes: &mut [u8; 3908], c: Carried) -> Tur
     }
 }
 
-// The recording, from reset; a last line without its end counts too.
+// The recording; a last line without its end counts too.
 fn run(words: &mut [i16; 5963], bytes: &mut [u8; 3908]) {
-    let start = celp::reset(words, bytes);
-    let first = start.state;
-    state_part(first, false);
+    let start = celp::cold_start(words, bytes);
+    let cold = start.state;
     let mut c = Carried {
-        state: first,
+        first: true,
+        state: cold,
         line: hex::empty(),
         digest: false,
     };
@@ -243,7 +276,9 @@ fn run(words: &mut [i16; 5963], bytes: &mut [u8; 3908]) {
     let line = c.line;
     let state = c.state;
     if line.n != 0 {
-        heard(words, bytes, state, line, c.digest);
+        line_over(words, bytes, c.first, state, line, c.digest);
+    } else {
+        ended(c.first, state, c.digest);
     }
 }
 

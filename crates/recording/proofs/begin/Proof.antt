@@ -45,21 +45,21 @@ returns c =
     let m : 17 ≡ length (x .result) = sym (ap length (x .ensures)) in
     (rw (k .0, c .idle .ensures), (n .1, (p ∙ rw (x .ensures, k .1), ((λ e. absurd (t .if1 .taken e)), over-counts _ _ 17 p m (omega arith)))))
 
-sub-from-reset : tie.Need-sub-from-reset
-sub-from-reset c =
+sub-from-cold : tie.Need-sub-from-cold
+sub-from-cold c =
     let h = accepted-long (c .before .before .before .before .before .before .before .args .file .now) (sym (c .before .before .before .check-file .ensures .0) ∙ c .before .if1 .left) in
     omega arith
 
-part-from-reset-start : tie.Need-part-from-reset-start
-part-from-reset-start c =
+part-from-cold-start : tie.Need-part-from-cold-start
+part-from-cold-start c =
     let h = accepted-long (c .before .before .before .before .before .before .before .args .file .now) (sym (c .before .before .before .check-file .ensures .0) ∙ c .before .if1 .left) in
     omega arith
 
-part-from-reset-end : tie.Need-part-from-reset-end
-part-from-reset-end c = search needs
+part-from-cold-end : tie.Need-part-from-cold-end
+part-from-cold-end c = search needs
 
-from-reset-requires : tie.Need-from-reset-requires
-from-reset-requires c κs = search needs
+from-cold-requires : tie.Need-from-cold-requires
+from-cold-requires c κs = search needs
 
 same-length-3 : tie.Need-same-length-3
 same-length-3 c = search needs
@@ -73,7 +73,7 @@ returns-2 c =
     let h = accepted-long (s .file .now) e in
     let k = started-ready (s .file .now) e in
     let w = n .1 ∙ accepted-words (s .file .now) (s .words .now) e in
-    (rw (k .0, c .from-reset .ensures, w, part-bytes (s .file .now) h), (n .1, (rw (k .1) (over-none (s .room .now)), ((λ z. record { long = h; are = w }), (search needs, refl)))))
+    (rw (k .0, c .from-cold .ensures, w, part-bytes (s .file .now) h), (n .1, (rw (k .1) (over-none (s .room .now)), ((λ z. record { long = h; are = w }), (search needs, refl)))))
 
 pub begin-spec : {M : Type 1} → statement M
 begin-spec =
@@ -87,9 +87,9 @@ begin-spec =
     same-length
     same-length-2
     returns
-    sub-from-reset
-    part-from-reset-start
-    part-from-reset-end
-    from-reset-requires
+    sub-from-cold
+    part-from-cold-start
+    part-from-cold-end
+    from-cold-requires
     same-length-3
     returns-2)

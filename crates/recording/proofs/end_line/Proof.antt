@@ -1,70 +1,38 @@
--- What is held tells which call it is.
-use borrow.Author.Needs.{needs}
+-- A first `+`, or a call.
 use mathlib.Core.Path.{refl, sym, _∙_}
-use lib.Dec.{eqb}
-use lib.ListN.{length}
-use Rattle.celp.specs.Run.{step}
-use Rattle.hex.specs.Text.{isDigit, isFrame, refusedText}
-use Rattle.recording.specs.Recording.{event, text, lineStep, lineText}
-use Rattle.hex.specs.Held.{heldLine}
-use Rattle.recording.specs.Feed.{called, said}
-use Rattle.sequence.specs.All.{all, and-right}
 use native.Mathlib.Omega.{arith}
+use Rattle.stream.specs.Room.{over-none}
+use Rattle.recording.specs.Recording.{lineStep, lineText}
+use Rattle.recording.specs.Feed.{called, said, endStep, endText}
+use borrow.Author.Needs.{needs}
 use Rattle.recording.proofs.end_line.Statement.{statement}
 use Rattle.recording.proofs.end_line.Tie as tie
 
-held-frame-requires : tie.Need-held-frame-requires
-held-frame-requires c κs = search needs
+is-opening-requires : tie.Need-is-opening-requires
+is-opening-requires c κs = search needs
 
-payload-requires : tie.Need-payload-requires
-unfolding isFrame
-payload-requires c κs =
-    let h = c .before .before .held-frame .ensures in
-    let t = c .before .if1 .taken in
-    let l = heldLine (c .before .before .before .before .before .args .line) in
-    rw (h .1 t .1) at (and-right (eqb (length l) 40) (all isDigit l) (sym (h .0) ∙ t))
+reset-requires : tie.Need-reset-requires
+reset-requires c κs = search needs
 
-hear-requires : tie.Need-hear-requires
-hear-requires c κs = search needs
+returns : tie.Need-returns
+unfolding said endStep endText
+returns c =
+    let o = c .before .before .is-opening .ensures in
+    let s = c .before .before .before .before .before .args in
+    rw (sym o ∙ c .before .if1 .taken, c .reset .ensures) (refl, (over-none (s .out .now), (omega arith, omega arith)))
+
+call-requires : tie.Need-call-requires
+call-requires c κs = search needs
 
 same-length : tie.Need-same-length
 same-length c = search needs
 
-returns : tie.Need-returns
-unfolding said called event lineStep lineText
-returns c =
-    let h = c .before .before .before .before .before .before .before .held-frame .ensures in
-    let t = c .before .before .before .before .before .before .if1 .taken in
-    let w = c .before .before .hear .ensures in
-    let n = h .1 t .0 in
-    rw (sym (h .0) ∙ t, h .1 t .1, ← (c .before .before .before .before .payload .ensures)) (w .0, (w .1 .0, (w .1 .1, omega arith)))
-
-missed-requires : tie.Need-missed-requires
-missed-requires c κs = search needs
-
-put-refused-requires : tie.Need-put-refused-requires
-put-refused-requires c κs = search needs
-
-same-length-2 : tie.Need-same-length-2
-same-length-2 c = search needs
-
 returns-2 : tie.Need-returns-2
-unfolding said text step event lineStep lineText refusedText
+unfolding said called endStep endText lineStep lineText
 returns-2 c =
-    let h = c .before .before .before .before .before .before .held-frame in
-    let p = c .before .before .put-refused .ensures in
-    rw (← (h .ensures .0), c .before .before .before .before .before .if1 .left, c .before .before .before .before .missed .ensures, p .0) (refl, (p .1, (omega arith, omega arith)))
+    let p = c .before .before in
+    let o = p .before .before .before .is-opening .ensures in
+    rw (sym o ∙ p .before .before .if1 .left) (p .call .ensures)
 
 pub end-line-spec : {M : Type 1} → statement M
-end-line-spec =
-    tie.close
-    (tie.spec
-    held-frame-requires
-    payload-requires
-    hear-requires
-    same-length
-    returns
-    missed-requires
-    put-refused-requires
-    same-length-2
-    returns-2)
+end-line-spec = tie.close (tie.spec is-opening-requires reset-requires returns call-requires same-length returns-2)

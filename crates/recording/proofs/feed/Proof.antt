@@ -10,10 +10,10 @@ use Rattle.recording.proofs.feed.Statement.{statement}
 use Rattle.recording.proofs.feed.Tie as tie
 
 abbrev Inv-loop : tie.InvT-loop
-Inv-loop words bytes chunk room₀ state₀ line₀ n₀ at₀ room state line n at = Streamed (fed words bytes) (written words bytes) credit 32 (standing state₀ line₀) chunk room₀ (standing state line) n room at
+Inv-loop words bytes chunk room₀ first₀ state₀ line₀ n₀ at₀ room first state line n at = Streamed (fed words bytes) (written words bytes) credit 32 (standing first₀ state₀ line₀) chunk room₀ (standing first state line) n room at
 
 abbrev μ-loop : tie.MeasureT-loop
-μ-loop words bytes chunk room₀ state₀ line₀ n₀ at₀ room state line n at = length chunk - at
+μ-loop words bytes chunk room₀ first₀ state₀ line₀ n₀ at₀ room first state line n at = length chunk - at
 
 loop-holds : tie.Need-loop-holds Inv-loop μ-loop
 loop-holds c = streamed-none _ _ credit 32 _ _ _
@@ -65,7 +65,7 @@ loop-again c =
     let t = p .before .before .before .before .before in
     let f = turn-fits _ _ (t .loop .inv) (t .before .before .before .before .before .before .pre) in
     let s = t .before .before .before .before .before .before .args in
-    let r = standing (t .loop .state) (t .loop .line) in
+    let r = standing (t .loop .first) (t .loop .state) (t .loop .line) in
     let k = fed-newline (s .words .now) (s .bytes .now) r (p .before .before .if1 .taken) in
     let h = p .end-line .ensures in
     streamed-more _ _ credit 32 (t .loop .inv) (p .before .before .before .before .loop-test .taken) (rw (k .0, h .0, c .empty .ensures)) (rw (k .1, h .0)) (rw (k .1) (tail-back (t .loop .room) _ (t .loop .n) _ (omega arith) (omega arith) (h .1 .0))) (rw (c .empty .ensures) (newline-paid (t .loop .line) (t .loop .n) (p .end-line .result .n) (h .1 .1 .1)))
@@ -80,7 +80,7 @@ loop-again-2 : tie.Need-loop-again-2 Inv-loop μ-loop
 loop-again-2 c =
     let t = c .before .before .before .before in
     let s = t .before .before .before .before .before .before .args in
-    let k = fed-other (s .words .now) (s .bytes .now) (standing (t .loop .state) (t .loop .line)) (c .before .if1 .left) in
+    let k = fed-other (s .words .now) (s .bytes .now) (standing (t .loop .first) (t .loop .state) (t .loop .line)) (c .before .if1 .left) in
     streamed-quiet _ _ credit 32 (t .loop .inv) (c .before .before .before .loop-test .taken) (rw (k .0, c .push .ensures)) (k .1) (rw (c .push .ensures) (other-paid (t .loop .line) _))
 
 same-length : tie.Need-same-length Inv-loop μ-loop

@@ -1,5 +1,6 @@
 -- The tests are the definition's.
 use mathlib.Core.Path.{sym, _∙_}
+use Rattle.term.specs.Term.{isEnd}
 use Rattle.term.specs.Steps.{lineEnded}
 use borrow.Author.Needs.{needs}
 use Rattle.term.proofs.end_line.Statement.{statement}
@@ -12,25 +13,46 @@ returns : tie.Need-returns
 unfolding lineEnded
 returns c = rw (sym (c .before .full .ensures) ∙ c .if1 .taken)
 
-is-end-requires : tie.Need-is-end-requires
-is-end-requires c κs = search needs
+is-only-requires : tie.Need-is-only-requires
+is-only-requires c κs = search needs
+
+cold-start-requires : tie.Need-cold-start-requires
+cold-start-requires c κs = search needs
+
+uncounted-requires : tie.Need-uncounted-requires
+uncounted-requires c κs = search needs
+
+returns-2 : tie.Need-returns-2
+unfolding lineEnded isEnd
+returns-2 c =
+    let e = c .before .before .before .before in
+    rw (sym (e .before .before .full .ensures) ∙ e .before .if1 .left, sym (e .is-only .ensures) ∙ c .before .before .before .if2 .taken, c .before .before .cold-start .ensures, c .uncounted .ensures)
+
+is-opening-requires : tie.Need-is-opening-requires
+is-opening-requires c κs = search needs
 
 reset-requires : tie.Need-reset-requires
 reset-requires c κs = search needs
 
-ended-requires : tie.Need-ended-requires
-ended-requires c κs = search needs
+uncounted-requires-2 : tie.Need-uncounted-requires-2
+uncounted-requires-2 c κs = search needs
 
-returns-2 : tie.Need-returns-2
-unfolding lineEnded
-returns-2 c = rw (sym (c .before .before .before .before .before .before .full .ensures) ∙ c .before .before .before .before .before .if1 .left, sym (c .before .before .before .before .is-end .ensures) ∙ c .before .before .before .if2 .taken, c .before .before .reset .ensures, c .ended .ensures)
+returns-3 : tie.Need-returns-3
+unfolding lineEnded isEnd
+returns-3 c =
+    let o = c .before .before .before .before in
+    let e = o .before .before in
+    rw (sym (e .before .before .full .ensures) ∙ e .before .if1 .left, sym (e .is-only .ensures) ∙ o .before .if2 .left, sym (o .is-opening .ensures) ∙ c .before .before .before .if3 .taken, c .before .before .reset .ensures, c .uncounted2 .ensures)
 
 call-requires : tie.Need-call-requires
 call-requires c κs = search needs
 
-returns-3 : tie.Need-returns-3
-unfolding lineEnded
-returns-3 c = rw (sym (c .before .before .before .before .full .ensures) ∙ c .before .before .before .if1 .left, sym (c .before .before .is-end .ensures) ∙ c .before .if2 .left) (c .call .ensures)
+returns-4 : tie.Need-returns-4
+unfolding lineEnded isEnd
+returns-4 c =
+    let o = c .before .before in
+    let e = o .before .before in
+    rw (sym (e .before .before .full .ensures) ∙ e .before .if1 .left, sym (e .is-only .ensures) ∙ o .before .if2 .left, sym (o .is-opening .ensures) ∙ c .before .if3 .left) (c .call .ensures)
 
 pub end-line-spec : {M : Type 1} → statement M
 end-line-spec =
@@ -38,9 +60,13 @@ end-line-spec =
     (tie.spec
     full-requires
     returns
-    is-end-requires
-    reset-requires
-    ended-requires
+    is-only-requires
+    cold-start-requires
+    uncounted-requires
     returns-2
+    is-opening-requires
+    reset-requires
+    uncounted-requires-2
+    returns-3
     call-requires
-    returns-3)
+    returns-4)

@@ -11,10 +11,10 @@ use Rattle.term.proofs.take_in.Statement.{statement}
 use Rattle.term.proofs.take_in.Tie as tie
 
 abbrev Inv-loop : tie.InvT-loop
-Inv-loop words bytes chunk state₀ line₀ tally₀ i₀ state line tally i = (i ≤ length chunk) × (standing (place state tally) line ≡ fedAll (fed words bytes) (standing (place state₀ tally₀) line₀) (take i chunk))
+Inv-loop words bytes chunk first₀ state₀ line₀ tally₀ i₀ first state line tally i = (i ≤ length chunk) × (standing (place first state tally) line ≡ fedAll (fed words bytes) (standing (place first₀ state₀ tally₀) line₀) (take i chunk))
 
 abbrev μ-loop : tie.MeasureT-loop
-μ-loop words bytes chunk state₀ line₀ tally₀ i₀ state line tally i = length chunk - i
+μ-loop words bytes chunk first₀ state₀ line₀ tally₀ i₀ first state line tally i = length chunk - i
 
 loop-holds : tie.Need-loop-holds Inv-loop μ-loop
 unfolding fedAll
@@ -41,7 +41,7 @@ loop-again c =
     let s = t .before .before .before .before .before .before .args in
     let l = t .loop in
     let f = fed (s .words .now) (s .bytes .now) in
-    let k = fed-newline (s .words .now) (s .bytes .now) (standing (place (l .state) (l .tally)) (l .line)) (c .before .before .before .before .if1 .taken) in
+    let k = fed-newline (s .words .now) (s .bytes .now) (standing (place (l .first) (l .state) (l .tally)) (l .line)) (c .before .before .before .before .if1 .taken) in
     (search needs, rw (fed-more f _ (s .chunk .now) (l .i) (c .before .before .before .before .before .before .loop-test .taken), ← (l .inv .1), k, c .before .before .before .end-line .ensures, c .empty .ensures))
 
 push-requires : tie.Need-push-requires Inv-loop μ-loop
@@ -56,7 +56,7 @@ loop-again-2 c =
     let s = t .before .before .before .before .before .before .args in
     let l = t .loop in
     let f = fed (s .words .now) (s .bytes .now) in
-    let k = fed-other (s .words .now) (s .bytes .now) (standing (place (l .state) (l .tally)) (l .line)) (c .before .if1 .left) in
+    let k = fed-other (s .words .now) (s .bytes .now) (standing (place (l .first) (l .state) (l .tally)) (l .line)) (c .before .if1 .left) in
     (search needs, rw (fed-more f _ (s .chunk .now) (l .i) (c .before .before .before .loop-test .taken), ← (l .inv .1), k, c .push .ensures))
 
 returns : tie.Need-returns Inv-loop μ-loop

@@ -8,11 +8,8 @@ Inv-loop words₀ bytes₀ c₀ turns₀ words bytes c turns = Unit {0}
 abbrev μ-loop : tie.MeasureT-loop
 μ-loop words₀ bytes₀ c₀ turns₀ words bytes c turns = turns
 
-reset-requires : tie.Need-reset-requires Inv-loop μ-loop
-reset-requires c κs = search needs
-
-state-part-requires : tie.Need-state-part-requires Inv-loop μ-loop
-state-part-requires c κs = search needs
+cold-start-requires : tie.Need-cold-start-requires Inv-loop μ-loop
+cold-start-requires c κs = search needs
 
 empty-requires : tie.Need-empty-requires Inv-loop μ-loop
 empty-requires c κs = search needs
@@ -38,8 +35,11 @@ loop-less-2 c = search needs
 loop-again-2 : tie.Need-loop-again-2 Inv-loop μ-loop
 loop-again-2 c = search needs
 
-heard-requires : tie.Need-heard-requires Inv-loop μ-loop
-heard-requires c κs = search needs
+line-over-requires : tie.Need-line-over-requires Inv-loop μ-loop
+line-over-requires c κs = search needs
+
+ended-requires : tie.Need-ended-requires Inv-loop μ-loop
+ended-requires c κs = search needs
 
 returns : tie.Need-returns Inv-loop μ-loop
 returns c = search needs
@@ -53,8 +53,7 @@ run-spec =
     (tie.spec
     Inv-loop
     μ-loop
-    reset-requires
-    state-part-requires
+    cold-start-requires
     empty-requires
     loop-holds
     read-some-requires
@@ -63,6 +62,7 @@ run-spec =
     loop-again
     loop-less-2
     loop-again-2
-    heard-requires
+    line-over-requires
+    ended-requires
     returns
     returns-2)

@@ -5,10 +5,10 @@ use Rattle.trace.proofs.taken.Statement.{statement}
 use Rattle.trace.proofs.taken.Tie as tie
 
 abbrev Inv-loop : tie.InvT-loop
-Inv-loop words₀ bytes₀ s state₀ line₀ digest₀ i₀ words bytes state line digest i = i ≤ length s
+Inv-loop words₀ bytes₀ s first₀ state₀ line₀ digest₀ i₀ words bytes first state line digest i = i ≤ length s
 
 abbrev μ-loop : tie.MeasureT-loop
-μ-loop words₀ bytes₀ s state₀ line₀ digest₀ i₀ words bytes state line digest i = length s - i
+μ-loop words₀ bytes₀ s first₀ state₀ line₀ digest₀ i₀ words bytes first state line digest i = length s - i
 
 loop-holds : tie.Need-loop-holds Inv-loop μ-loop
 loop-holds c = search needs
@@ -22,11 +22,14 @@ add-i c = search needs
 is-heading-requires : tie.Need-is-heading-requires Inv-loop μ-loop
 is-heading-requires c κs = search needs
 
+ended-requires : tie.Need-ended-requires Inv-loop μ-loop
+ended-requires c κs = search needs
+
 headed-requires : tie.Need-headed-requires Inv-loop μ-loop
 headed-requires c κs = search needs
 
-heard-requires : tie.Need-heard-requires Inv-loop μ-loop
-heard-requires c κs = search needs
+line-over-requires : tie.Need-line-over-requires Inv-loop μ-loop
+line-over-requires c κs = search needs
 
 empty-requires : tie.Need-empty-requires Inv-loop μ-loop
 empty-requires c κs = search needs
@@ -59,8 +62,9 @@ taken-spec =
     shared-slice-read-b
     add-i
     is-heading-requires
+    ended-requires
     headed-requires
-    heard-requires
+    line-over-requires
     empty-requires
     loop-less
     loop-again
