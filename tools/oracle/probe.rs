@@ -332,13 +332,18 @@ fn lsp_answer(q: &[i64]) -> Vec<i64> {
     }
 }
 
-// an absolute code, a relative code or -1, and then
+// an absolute code, or from 256 on 19 and what 126 leaves of it as the lag integer before; a relative code or -1; and then
 // nothing: the lag; 2, a seed: predict from the 154 samples that it gives; 3, a seed, a gain: sharpen the innovation that it gives
 fn pitch_questions(r: &mut Random) -> Vec<Question> {
     let mut all: Vec<Question> = (0..256).map(|code| vec![code, -1]).collect();
     for absolute in [0, 2, 5, 8, 17, 20, 120, 196, 250, 252, 254, 255] {
         for code in 0..32 {
             all.push(vec![absolute, code]);
+        }
+    }
+    for before in 256..256 + 126 {
+        for code in 0..32 {
+            all.push(vec![before, code]);
         }
     }
     for n in 0..40 {
@@ -371,10 +376,17 @@ fn samples(seed: i64, n: usize) -> Vec<i16> {
 }
 
 fn pitch_answer(q: &[i64]) -> Vec<i64> {
-    let mut lag = pitch::decode_absolute(q[0] as i16);
-    if 0 <= q[1] {
-        lag = pitch::decode_relative(q[1] as i16, lag.integer);
-    }
+    let before = match q[0] {
+        code @ 0..=255 => pitch::decode_absolute(code as i16),
+        n => pitch::Lag {
+            integer: 19 + (n % 126) as i16,
+            frac: 0,
+        },
+    };
+    let lag = match q[1] {
+        -1 => before,
+        code => pitch::decode_relative(code as i16, before.integer),
+    };
     match q.get(2) {
         Some(2) => {
             let mut exc = samples(q[3], 154);

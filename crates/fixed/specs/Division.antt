@@ -3,7 +3,7 @@ use native.Mathlib.Omega.{arith}
 use mathlib.Core.Bool.{Bool, true, false, cond}
 use mathlib.Core.Path.{_≡_, refl, ap, sym, _∙_}
 use Prim.Native.Nat.{ℕ, zero, suc, _+_, _-_, _*_, _/_, _%_, _^_, _≤_, _<_}
-use native.Mathlib.Nat.{add-mul, suc-mul, mul-comm, mul-assoc, mul-one, pow-suc, mod-lt, mod-eq-of-lt, mul-le-mul-right, div-add-mod', div-lt-iff-lt-mul, div-eq-of-lt, mul-right-comm, mul-pos, add-comm, add-mul-mod-self-right}
+use native.Mathlib.Nat.{add-mul, suc-mul, mul-comm, mul-assoc, pow-suc, mod-lt, mod-eq-of-lt, mul-le-mul-right, div-add-mod', div-lt-iff-lt-mul, div-eq-of-lt, mul-right-comm, mul-pos, add-comm, add-mul-mod-self-right}
 use lib.Arith.{digits-div, digits-mod}
 use lib.Dec.{ltb, leb·zero}
 use lib.Pow.{pow-pos, pow-mono, pow-add}
@@ -11,9 +11,9 @@ use lib.IntN.{ℤ, pos, _*ℤ_}
 use lib.Signed.{leZ}
 use borrow.Author.Tests.{ltb-true, ltb-false}
 use Rattle.sequence.specs.Repeated.{repeated}
-use Rattle.fixed.specs.Fixed.{residue, acc, fold, low, restoringStep, restoringDivide}
+use Rattle.fixed.specs.Fixed.{residue, acc, fold, restoringStep, restoringDivide}
 use Rattle.fixed.specs.Integers.{sub-is, sub-below, sub-above}
-use Rattle.fixed.specs.Wrap.{acc-fits, wrap-cong, wrap-fits}
+use Rattle.fixed.specs.Wrap.{acc-fits}
 
 -- ---- one step, of a number that is not negative
 picked : ℕ → ℤ → ℤ
@@ -95,22 +95,6 @@ module _ (n d : ℕ) (p : 0 < d) (b : d < 32768) (h : n < d * 65536) where
       ap (λ (z : ℤ). restoringStep z (pos d)) (divide-is k (omega arith) ∙ ap (λ (m : ℕ). pos (n % m * P + n / m)) (sym u))
       ∙ step-is n e d P (mul-pos p (pow-pos (16 - suc k))) w (omega arith) b (pow-mono {i = k} {j = 15} (omega arith))
       ∙ ap (λ (x : ℕ). pos (n % e * x + n / e)) (sym (pow-suc 2 k))
-
-  -- sixteen steps give n / d in the low half, and what is left of n in the high half
-  pub divide-16 : restoringDivide (pos n) (pos d) 16 ≡ pos (n % d * 65536 + n / d)
-  divide-16 = divide-is 16 (omega arith) ∙ ap (λ (m : ℕ). pos (n % m * 65536 + n / m)) (mul-one d)
-
-  -- so the low half is n / d, where that has no more than 15 bits
-  pub low-divide-16 : n / d < 32768 → low (restoringDivide (pos n) (pos d) 16) ≡ pos (n / d)
-  unfolding residue
-  low-divide-16 s =
-      ap (λ (z : ℤ). low z) divide-16
-      ∙ wrap-cong 16 (pos (n % d * 65536 + n / d)) (pos (n / d)) (below-sixteen (n % d) (n / d))
-      ∙ wrap-fits 15 (pos (n / d)) s
-
--- the lag decoders' division by 3
-pub third : (c : ℕ) → c < 65536 → low (restoringDivide (pos (c + 2)) (pos 3) 16) ≡ pos ((c + 2) / 3)
-third c h = low-divide-16 (c + 2) 3 (omega arith) (omega arith) (omega arith) (omega arith)
 
 -- what the reciprocal divides, 16383 in the high half, and half of it
 abbrev NUMERATOR : ℕ

@@ -1,8 +1,8 @@
 -- Sums of 16-bit numbers that are natural: what a local that holds one reads as.
 use native.Mathlib.Omega.{arith}
 use mathlib.Core.Path.{_≡_, _∙_}
-use Prim.Native.Nat.{ℕ, _+_, _-_, _≤_, _<_}
-use lib.IntN.{ℤ, pos, _+ℤ_, _-ℤ_}
+use Prim.Native.Nat.{ℕ, _-_, _≤_, _<_}
+use lib.IntN.{ℤ, pos, _-ℤ_}
 use mir.Syntax.{w16}
 use mir.Val.{SFits, toZ, ofZ}
 use mir.ValLaws.{toZ-ofZ}
@@ -15,9 +15,6 @@ module _ {z : ℤ} {n : ℕ} (e : z ≡ pos n) (h : n < 32768) where
 
   pub reads : toZ w16 (ofZ w16 z) ≡ pos n
   reads = toZ-ofZ w16 z fits ∙ e
-
-pub added : {x y : ℤ} {a b : ℕ} → x ≡ pos a → y ≡ pos b → x +ℤ y ≡ pos (a + b)
-added e f = rw (e, f)
 
 pub less : {x : ℤ} {a : ℕ} (b : ℕ) → x ≡ pos a → b ≤ a → x -ℤ pos b ≡ pos (a - b)
 less {a = a} b e h = rw e (sub-is a b ∙ sub-above a b h)

@@ -1,8 +1,8 @@
 // Lags in thirds of a sample, the adaptive codebook's prediction, and pitch sharpening.
 ghost use mathlib.Core.Path.{_≡_};
-ghost use Prim.Native.Nat.{_+_, _-_, _*_, _/_, _≤_, _<_};
+ghost use Prim.Native.Nat.{_+_, _-_, _*_, _≤_, _<_};
 ghost use lib.ListN.{length};
-ghost use lib.IntN.{pos, natAbs, _*ℤ_};
+ghost use lib.IntN.{pos};
 ghost use Rattle.sequence.specs.Rewritten.{rewritten};
 ghost use Rattle.tables.specs.Places.{WORDS};
 ghost use Rattle.pitch.specs.Pitch as Pitch;
@@ -11,10 +11,7 @@ use fixed::acc;
 use fixed::fold;
 use fixed::fold_products;
 use fixed::hi;
-use fixed::low;
-use fixed::mul;
 use fixed::mul32x16;
-use fixed::restoring_divide;
 use fixed::sat;
 use fixed::shift;
 use fixed::small;
@@ -26,30 +23,15 @@ pub struct Lag {
     pub frac: i16,
 }
 
-// A third of a code, rounded up.
-fn third(code: u16) -> i16
-    requires { ⌜ code < 256 ⌝ }
-    ensures { λ r. ⌜ r ≡ pos ((code + 2) / 3) ⌝ }
+// The lag of n thirds of a sample. Its nearest whole number is n + 1 divided by 3 and rounded down: 3k - 1, 3k and 3k + 1 thirds give k.
+fn thirds(n: u16) -> Lag
+    requires { ⌜ n ≤ 431 ⌝ }
+    ensures { λ r. ⌜ r ≡ Pitch.thirds n ⌝ }
 {
-    low(restoring_divide(code as i64 + 2, 3, 16))
-}
-
-// Three times x: half of its fractional product with 3.
-fn triple(x: i16) -> i16
-    requires { ⌜ natAbs x ≤ 10000 ⌝ }
-    ensures { λ r. ⌜ r ≡ x *ℤ pos 3 ⌝ }
-{
-    low(mul(x, 3) >> 1)
-}
-
-// The lag of n thirds, whose nearest whole number is given.
-fn thirds(n: i16, whole: i16) -> Lag
-    requires { ⌜ (n ≡ pos (natAbs n)) × (natAbs n ≤ 431) × (whole ≡ pos ((natAbs n + 1) / 3)) ⌝ }
-    ensures { λ r. ⌜ r ≡ Pitch.thirds (natAbs n) ⌝ }
-{
+    let whole = (n + 1) / 3;
     Lag {
-        integer: whole,
-        frac: n - triple(whole),
+        integer: whole as i16,
+        frac: n as i16 - (whole * 3) as i16,
     }
 }
 
@@ -58,15 +40,15 @@ pub fn decode_absolute(code: u16) -> Lag
     requires { ⌜ code < 256 ⌝ }
     ensures { λ r. ⌜ r ≡ Pitch.decodeAbsolute code ⌝ }
 {
-    let c = code as i16;
     if code >= 197 {
         // the top of the range has whole samples only
         return Lag {
-            integer: c - 112,
+            integer: code as i16 - 112,
             frac: 0,
         };
     }
-    thirds(c + 58, third(code) + 19)
+    // code + 58 thirds of a sample, from 19 and a third on; to the nearest whole sample, so that a third more or less is left
+    thirds(code + 58)
 }
 
 // The lag integer at which the relative codes begin.
@@ -89,9 +71,9 @@ pub fn decode_relative(code: u16, prev: i16) -> Lag
     requires { ⌜ (code < 32) × Pitch.InRange prev ⌝ }
     ensures { λ r. ⌜ r ≡ Pitch.decodeRelative code prev ⌝ }
 {
-    let c = code as i16;
-    let m = lowest(prev);
-    thirds(triple(m) + c - 2, third(code) + m - 1)
+    let m = lowest(prev) as u16;
+    // code thirds from two thirds below m on; to the nearest whole sample, as in an absolute code
+    thirds(m * 3 + code - 2)
 }
 
 // The filter's phase: the negated fraction, which is made positive with a whole sample more of delay.

@@ -1,4 +1,4 @@
-// The answers of pitch: an absolute code, a relative code or -1; then nothing, and out comes the lag,
+// The answers of pitch: an absolute code, or from 256 on a lag integer before; a relative code or -1; then nothing, and out comes the lag,
 // or 2 and a seed, and out comes the prediction from its samples, or 3, a seed and a gain, and out come its samples, sharpened.
 use fixed::magnitude;
 use pitch::Lag;
@@ -32,6 +32,22 @@ fn lag(n: [i64; 128]) -> Lag
     pitch::decode_relative(relative(n[2]), first.integer)
 }
 
+// A lag integer, 19 to 144, that a relative code may follow.
+fn before(x: i64) -> i16
+    ensures { λ r. ⌜ Pitch.InRange r ⌝ }
+{
+    19 + (magnitude(x) % 126) as i16
+}
+
+fn asked(n: [i64; 128]) -> Lag
+    ensures { λ r. ⌜ Pitch.Sane r ⌝ }
+{
+    if n[1] < 256 {
+        return lag(n);
+    }
+    pitch::decode_relative(relative(n[2]), before(n[1]))
+}
+
 fn say_lag(l: Lag) {
     say_line(&[l.integer, l.frac]);
 }
@@ -58,7 +74,7 @@ fn say_sharpened(words: &[i16], l: Lag, seed: u64, gain: i16)
 pub fn answer(words: &[i16], n: [i64; 128])
     requires { ⌜ length (now words) ≡ WORDS ⌝ }
 {
-    let l = lag(n);
+    let l = asked(n);
     match n[3] {
         2 => say_prediction(words, l, magnitude(n[4])),
         3 => say_sharpened(words, l, magnitude(n[4]), fixed::low(n[5])),
