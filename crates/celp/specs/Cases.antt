@@ -8,21 +8,21 @@ use Rattle.tables.specs.Tables.{check}
 use Rattle.bits.specs.Bits.{fieldsOf}
 use Rattle.frame.specs.Frame as Frame
 use Rattle.celp.specs.declared.State.{State}
-use Rattle.celp.specs.State.{allZero, marked, initial, startedBy, started}
+use Rattle.celp.specs.State.{allZero, marked, fault, initial, startedBy, started}
 use Rattle.celp.specs.Celp.{refusal, refused, carried, decoded, accepted, answer, decode, written, samples}
 
 module _ (words : List ℤ) (bytes : List ℕ) (m : ℕ) where
-  pub started-refused : (n : ℕ) → n ≡ check words bytes → (n ≡ 0 → ⊥) → record { number = n; state = allZero } ≡ started words bytes m
+  pub started-refused : (n : ℕ) → n ≡ check words bytes → (n ≡ 0 → ⊥) → record { number = n; rule = fault n words bytes .rule; place = fault n words bytes .place; state = allZero } ≡ started words bytes m
   unfolding started startedBy
   started-refused zero e h = absurd (h refl)
   started-refused (suc n) e h = rw (← e)
 
-  pub started-accepted : check words bytes ≡ 0 → record { number = 0; state = initial words bytes m } ≡ started words bytes m
+  pub started-accepted : check words bytes ≡ 0 → record { number = 0; rule = 0; place = 0; state = initial words bytes m } ≡ started words bytes m
   unfolding started startedBy
   started-accepted e = rw e
 
 module _ (words : List ℤ) (bytes : List ℕ) (s : State) (payload : List ℕ) where
-  pub decode-refused : (room n : ℕ) → n ≡ refusal words bytes s payload room → (n ≡ 0 → ⊥) → refused n s ≡ decode words bytes s payload room
+  pub decode-refused : (room n : ℕ) → n ≡ refusal words bytes s payload room → (n ≡ 0 → ⊥) → refused n (fault n words bytes) s ≡ decode words bytes s payload room
   unfolding decode answer
   decode-refused room zero e h = absurd (h refl)
   decode-refused room (suc n) e h = rw (← e)

@@ -10,6 +10,7 @@ use lib.ListN.{length, getD, replicate}
 use lib.Ieee.{ofBits, binary32}
 use Rattle.sequence.specs.First.{some}
 use Rattle.tables.specs.Places.{WORDS, BYTES}
+use Rattle.tables.specs.declared.Fault.{Fault}
 use Rattle.tables.specs.Tables.{broken}
 use Rattle.bits.specs.Bits.{fieldsOf}
 use Rattle.core.specs.declared.Core.{Core}
@@ -18,7 +19,7 @@ use Rattle.frame.specs.declared.Decoded.{Decoded}
 use Rattle.frame.specs.Frame as Frame
 use Rattle.celp.specs.declared.State.{State}
 use Rattle.celp.specs.declared.Answer.{Answer}
-use Rattle.celp.specs.State.{marked, obeys}
+use Rattle.celp.specs.State.{marked, obeys, fault}
 
 -- ---- refusals
 -- the number of the first case that holds, in document 01's order, or 0; room is how long the sample buffer is
@@ -48,9 +49,9 @@ silent =
       innovation = replicate 80 (pos 0);
     }
 
--- 0 in every part but the number, and the state with mark 0
-unfoldable pub refused : ℕ → State → Answer
-refused n s = record { number = n; mark = 0; state = marked s 0; excitation = replicate 320 (pos 0); subframes = replicate 4 silent }
+-- 0 in every part but the number and what it tells, and the state with mark 0
+unfoldable pub refused : ℕ → Fault → State → Answer
+refused n f s = record { number = n; rule = f .rule; place = f .place; mark = 0; state = marked s 0; excitation = replicate 320 (pos 0); subframes = replicate 4 silent }
 
 -- ---- acceptance
 -- the parts of the state that a half frame carries on, and back
@@ -96,12 +97,12 @@ raised-from-0 = (refl, refl, refl)
 
 -- answered with the mark that the frame came with
 unfoldable pub accepted : ℕ → Decoded → Answer
-accepted m d = record { number = 0; mark = m; state = next d (raised m); excitation = d .excitation; subframes = d .subframes }
+accepted m d = record { number = 0; rule = 0; place = 0; mark = m; state = next d (raised m); excitation = d .excitation; subframes = d .subframes }
 
 -- ---- the call: its answer, and the sample buffer, which a refusal leaves as it was
 unfoldable pub answer : ℕ → List ℤ → List ℕ → State → List ℕ → Answer
 answer zero words bytes s payload = accepted (s .mark) (decoded words bytes s payload)
-answer (suc n) words bytes s payload = refused (suc n) s
+answer (suc n) words bytes s payload = refused (suc n) (fault (suc n) words bytes) s
 
 unfoldable pub decode : List ℤ → List ℕ → State → List ℕ → ℕ → Answer
 decode words bytes s payload room = answer (refusal words bytes s payload room) words bytes s payload

@@ -1,6 +1,7 @@
 pub mod State
 pub mod Celp
 pub mod Cases
+pub mod Faults
 pub mod Run
 pub mod Mark
 pub mod TwoCalls

@@ -3,7 +3,7 @@ use Prim.Native.Nat.{ℕ, zero, suc, _+_}
 use mathlib.Core.Path.{_≡_, refl}
 use mathlib.Core.List.{List}
 use mathlib.Core.Bool.{Bool, true, false, _&&_, cond}
-use lib.Dec.{leb}
+use lib.Dec.{eqb, leb}
 use lib.IntN.{ℤ, pos}
 use lib.Ieee.{Float, ofBits, binary32}
 use lib.ListN.{replicate}
@@ -11,7 +11,8 @@ use Rattle.sequence.specs.All.{all}
 use Rattle.sequence.specs.Table.{table}
 use Rattle.floats.specs.Floats.{within}
 use Rattle.tables.specs.Places.{LSP-MEAN}
-use Rattle.tables.specs.Tables.{word, check}
+use Rattle.tables.specs.declared.Fault.{Fault}
+use Rattle.tables.specs.Tables.{word, firstFault, check}
 use Rattle.gain.specs.Gain as Gain
 use Rattle.spectral.specs.Spectral as Spectral
 use Rattle.celp.specs.declared.State.{State}
@@ -62,6 +63,10 @@ zero-obeys : (obeys allZero ≡ true) × (obeys (marked allZero 3) ≡ false)
 unfolding obeys allZero ofBits within
 zero-obeys = (refl, refl)
 
+-- which set rule was broken and where, told under refusal 4; under every other number, and on acceptance, 0 and 0
+unfoldable pub fault : ℕ → List ℤ → List ℕ → Fault
+fault n words bytes = cond (eqb n 4) (firstFault words bytes) (record { rule = 0; place = 0 })
+
 -- the ten words of LSP_MEAN
 unfoldable pub lspMean : List ℤ → List ℤ
 lspMean words = table (λ k. word words (LSP-MEAN + k)) 10
@@ -72,8 +77,8 @@ initial words bytes m = blank (lspMean words) (pos 3277) (pos 60) (Spectral.init
 
 -- it, or for a refusal number the all-zero state
 unfoldable pub startedBy : ℕ → List ℤ → List ℕ → ℕ → Returned
-startedBy zero words bytes m = record { number = 0; state = initial words bytes m }
-startedBy (suc n) words bytes m = record { number = suc n; state = allZero }
+startedBy zero words bytes m = record { number = 0; rule = 0; place = 0; state = initial words bytes m }
+startedBy (suc n) words bytes m = record { number = suc n; rule = fault (suc n) words bytes .rule; place = fault (suc n) words bytes .place; state = allZero }
 
 unfoldable pub started : List ℤ → List ℕ → ℕ → Returned
 started words bytes m = startedBy (check words bytes) words bytes m
@@ -88,4 +93,4 @@ coldStart words bytes = started words bytes 0
 
 -- a missed frame sets the mark to 0, and answers 5 to a state that breaks the rule
 unfoldable pub missedFrame : State → Returned
-missedFrame s = record { number = cond (obeys s) 0 5; state = marked s 0 }
+missedFrame s = record { number = cond (obeys s) 0 5; rule = 0; place = 0; state = marked s 0 }

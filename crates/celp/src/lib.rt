@@ -4,14 +4,16 @@ ghost use lib.ListN.{length};
 ghost use Rattle.sequence.specs.All.{all};
 ghost use Rattle.floats.specs.Floats.{within};
 ghost use Rattle.tables.specs.Places.{WORDS, BYTES};
+ghost use Rattle.tables.specs.Tables.{check};
 ghost use Rattle.bits.specs.Bits as Bits;
 ghost use Rattle.celp.specs.Celp as Celp;
-ghost use Rattle.celp.specs.State.{allZero, marked, obeys, lspMean, initial, started, reset, coldStart, missedFrame};
+ghost use Rattle.celp.specs.State.{allZero, marked, obeys, fault, lspMean, initial, started, reset, coldStart, missedFrame};
 use bits::FrameParams;
 use core::Core;
 use frame::Decoded;
 use frame::Subframe;
 use postfilter::OutputFilter;
+use tables::Fault;
 
 // All that a decoder carries from frame to frame: what the halves carry on, the residuals, the gain history, and the mark.
 pub struct State {
@@ -27,18 +29,23 @@ pub struct State {
     pub mark: u8,
 }
 
-// What a decode answers: a refusal number, or 0, the mark that the frame came with, the next state, and what is reported.
+// What a decode answers: a refusal number, or 0, with 4 the set rule that is broken and its first offending place, the mark that the frame came with,
+// the next state, and what is reported.
 pub struct Answer {
     pub number: u8,
+    pub rule: u8,
+    pub place: usize,
     pub mark: u8,
     pub state: State,
     pub excitation: [i16; 320],
     pub subframes: [Subframe; 4],
 }
 
-// What reset, cold start and a missed frame give: a refusal number, or 0, and a state.
+// What reset, cold start and a missed frame give: a refusal number, or 0, with 4 the rule and the place, and a state.
 pub struct Returned {
     pub number: u8,
+    pub rule: u8,
+    pub place: usize,
     pub state: State,
 }
 
@@ -97,6 +104,17 @@ fn obeys(state: State) -> bool
     state.mark <= 2
 }
 
+// Which set rule is broken and where: the set is looked through again, where it was refused with 4 and nowhere else.
+fn fault(number: u8, words: &[i16], bytes: &[u8]) -> Fault
+    requires { ⌜ (number ≡ 4 → check (now words) (now bytes) ≡ 4) ⌝ }
+    ensures { λ r. ⌜ r ≡ fault number (now (words .entry)) (now (bytes .entry)) ⌝ }
+{
+    if number == 4 {
+        return tables::first_fault(words, bytes);
+    }
+    Fault { rule: 0, place: 0 }
+}
+
 // The ten words of LSP_MEAN.
 fn lsp_mean(words: &[i16]) -> [i16; 10]
     requires { ⌜ length (now words) ≡ WORDS ⌝ }
@@ -139,13 +157,18 @@ fn started(words: &[i16], bytes: &[u8], mark: u8) -> Returned
 {
     let number = tables::check(words, bytes);
     if number != 0 {
+        let told = fault(number, words, bytes);
         return Returned {
             number,
+            rule: told.rule,
+            place: told.place,
             state: all_zero(),
         };
     }
     Returned {
         number: 0,
+        rule: 0,
+        place: 0,
         state: initial(words, bytes, mark),
     }
 }
@@ -172,11 +195,15 @@ pub fn missed_frame(state: State) -> Returned
     if obeys(state) {
         return Returned {
             number: 0,
+            rule: 0,
+            place: 0,
             state: s,
         };
     }
     Returned {
         number: 5,
+        rule: 0,
+        place: 0,
         state: s,
     }
 }
@@ -232,13 +259,15 @@ fn silent() -> Subframe
 }
 
 // The answer to a frame that is refused.
-fn refused(number: u8, state: State) -> Answer
-    ensures { λ r. ⌜ r ≡ Celp.refused number state ⌝ }
+fn refused(number: u8, told: Fault, state: State) -> Answer
+    ensures { λ r. ⌜ r ≡ Celp.refused number told state ⌝ }
 {
     let left = marked(state, 0);
     let nothing = silent();
     Answer {
         number,
+        rule: told.rule,
+        place: told.place,
         mark: 0,
         state: left,
         excitation: [0; 320],
@@ -312,6 +341,8 @@ fn accepted(came: u8, d: Decoded) -> Answer
     let subframes = d.subframes;
     Answer {
         number: 0,
+        rule: 0,
+        place: 0,
         mark: came,
         state,
         excitation,
@@ -333,7 +364,7 @@ pub fn decode(
     let f = bits::fields(bits::unpack(payload));
     let why = refusal(words, bytes, state, payload, f, samples.len());
     if why != 0 {
-        return refused(why, state);
+        return refused(why, fault(why, words, bytes), state);
     }
     let residuals = state.residuals;
     let d = frame::decode(words, bytes, carried(state), residuals, f, samples);

@@ -80,7 +80,7 @@ fn play(words: &[i16], file: &[u8], start: Recorder)
 pub fn run() {
     let mut file = [0u8; 15835];
     let mut words = [0i16; 5963];
-    let mut room = [0u8; 17];
+    let mut room = [0u8; 40];
     let got = pipe::read_file(b"tables.bin", &mut file);
     if got.failed {
         os::fail(b"decode: cannot read tables.bin");

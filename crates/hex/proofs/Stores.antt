@@ -4,12 +4,15 @@ use mathlib.Core.Path.{_≡_, refl, sym, ap, _∙_}
 use mathlib.Core.List.{List, [], _∷_, _++_, append-assoc, append-nil}
 use native.Mathlib.Numerals.{add-one}
 use native.Mathlib.Omega.{arith}
+use borrow.Author.Tests.{eq-eqb, ne-eqb}
 use lib.IntN.{ℤ, pos}
 use lib.ListN.{length, getD, take, set, length-append, length-set}
 use lib.Seq.{sets, length-sets, length-take-le, take-all, take-suc}
 use Rattle.tables.specs.Tables.{unsigned}
-use Rattle.stream.specs.Room.{over, sets-append, sets-over}
-use Rattle.hex.specs.Text.{digit, fourDigits, sampleText, frameText}
+use Rattle.stream.specs.Room.{over, over-long, sets-append, sets-over}
+use Rattle.tables.specs.declared.Fault.{Fault}
+use Rattle.stream.specs.Decimal.{figure, figure-long}
+use Rattle.hex.specs.Text.{digit, fourDigits, sampleText, frameText, tablesRefusedText}
 use Rattle.hex.specs.Lengths.{text-long}
 
 pub four-stores : (l : List ℕ) (i a b c d : ℕ) → set (set (set (set l i a) (i + 1) b) (i + 2) c) (i + 3) d ≡ sets l i (a ∷ b ∷ c ∷ d ∷ [])
@@ -69,3 +72,28 @@ frame-stores out mark samples e h =
 pub frame-same : (out : List ℕ) (d : ℕ) (t : List ℕ) → length (set (sets (set (set out 0 d) 1 32) 2 t) 1282 10) ≡ length out
 frame-same out d t =
     length-set (sets (set (set out 0 d) 1 32) 2 t) 1282 10 ∙ length-sets (set (set out 0 d) 1 32) 2 t ∙ length-set (set out 0 d) 1 32 ∙ length-set out 0 d
+
+-- ---- a refused table file's line: `tables refused `, the number, and what stands behind it
+abbrev TABLES : List ℕ
+TABLES = 116 ∷ 97 ∷ 98 ∷ 108 ∷ 101 ∷ 115 ∷ 32 ∷ 114 ∷ 101 ∷ 102 ∷ 117 ∷ 115 ∷ 101 ∷ 100 ∷ 32 ∷ []
+
+tables-stores : (out rest : List ℕ) (d : ℕ) → 16 + length rest ≤ length out → sets (set (over TABLES out) 15 d) 16 rest ≡ over (TABLES ++ (d ∷ rest)) out
+tables-stores out rest d h = rw (← (sets-over TABLES out (omega arith))) (sets-over (TABLES ++ (d ∷ rest)) out (omega arith))
+
+module _ (out : List ℕ) (n : ℕ) (told : Fault) (h : 40 ≤ length out) where
+  -- with no rule named
+  pub number-stores : told .rule ≡ 0 → (17 ≡ length (tablesRefusedText n told)) × (set (set (over TABLES out) 15 (digit n)) 16 10 ≡ over (tablesRefusedText n told) out)
+  unfolding tablesRefusedText
+  number-stores e = rw (eq-eqb (told .rule) 0 e) (refl, tables-stores out (10 ∷ []) (digit n) (omega arith))
+
+  -- with a rule and its place
+  pub fault-stores : (told .rule ≡ 0 → ⊥) → (18 + length (figure (32 ∷ []) (told .place)) ≡ length (tablesRefusedText n told)) × (sets (set (set (set (over TABLES out) 15 (digit n)) 16 32) 17 (digit (told .rule))) 18 (figure (32 ∷ []) (told .place)) ≡ over (tablesRefusedText n told) out)
+  unfolding tablesRefusedText
+  fault-stores e =
+      let l = figure-long (32 ∷ []) (told .place) in
+      rw (ne-eqb (told .rule) 0 e) (omega arith, tables-stores out (32 ∷ digit (told .rule) ∷ figure (32 ∷ []) (told .place)) (digit n) (omega arith))
+
+pub fault-same : (out text : List ℕ) (a b c : ℕ) → 15 ≤ length out → length (sets (set (set (set (over TABLES out) 15 a) 16 b) 17 c) 18 text) ≡ length out
+fault-same out text a b c h =
+    let l = over TABLES out in
+    length-sets (set (set (set l 15 a) 16 b) 17 c) 18 text ∙ length-set (set (set l 15 a) 16 b) 17 c ∙ length-set (set l 15 a) 16 b ∙ length-set l 15 a ∙ over-long TABLES out h

@@ -55,15 +55,26 @@ small file =
 pub file-number-small : {n : ℕ} (file : List ℕ) → n ≡ checkFile file → n < 10
 file-number-small file e = let h = small file in omega arith
 
--- a file that is accepted has the right length, and its words are put
-pub accepted-long : (file : List ℕ) → checkFile file ≡ 0 → length file ≡ 15834
+-- a file whose number is not 1 has the right length; its number is its set's, and its words are put
+pub long-file : (file : List ℕ) → (checkFile file ≡ 1 → ⊥) → length file ≡ 15834
 unfolding checkFile
-accepted-long file e = by (eqb (length file) 15834) refl
+long-file file h = by (eqb (length file) 15834) refl
   where
     by : (t : Bool) → eqb (length file) 15834 ≡ t → length file ≡ 15834
     by true p = eqb-true (length file) 15834 p
-    by false p = let z : _≡_ {A = ℕ} 1 0 = rw p at e in absurd (omega arith)
+    by false p = absurd (h (rw p))
+
+pub long-check : (file : List ℕ) → length file ≡ 15834 → checkFile file ≡ check (words file) (bytes file)
+unfolding checkFile
+long-check file h = rw (eq-eqb (length file) 15834 h)
+
+pub long-words : (file : List ℕ) (old : List ℤ) → length file ≡ 15834 → wordsOr file old ≡ words file
+unfolding wordsOr
+long-words file old h = rw (eq-eqb (length file) 15834 h)
+
+-- so has one that is accepted
+pub accepted-long : (file : List ℕ) → checkFile file ≡ 0 → length file ≡ 15834
+accepted-long file e = long-file file (λ z. omega arith)
 
 pub accepted-words : (file : List ℕ) (old : List ℤ) → checkFile file ≡ 0 → wordsOr file old ≡ words file
-unfolding wordsOr
-accepted-words file old e = rw (eq-eqb (length file) 15834 (accepted-long file e))
+accepted-words file old e = long-words file old (accepted-long file e)

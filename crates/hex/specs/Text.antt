@@ -8,6 +8,8 @@ use lib.IntN.{ℤ, pos, negsuc}
 use lib.ListN.{length, getD}
 use Rattle.sequence.specs.All.{all}
 use Rattle.sequence.specs.Table.{table}
+use Rattle.stream.specs.Decimal.{decimalIn, decimal, figure}
+use Rattle.tables.specs.declared.Fault.{Fault}
 use Rattle.tables.specs.Tables.{unsigned}
 
 -- ---- in
@@ -82,6 +84,12 @@ frameText mark samples = digit mark ∷ 32 ∷ (sampleText samples ++ (10 ∷ []
 unfoldable pub refusedText : ℕ → List ℕ
 refusedText n = 114 ∷ 101 ∷ 102 ∷ 117 ∷ 115 ∷ 101 ∷ 100 ∷ 32 ∷ digit n ∷ 10 ∷ []
 
--- `tables refused N`
-unfoldable pub tablesRefusedText : ℕ → List ℕ
-tablesRefusedText n = 116 ∷ 97 ∷ 98 ∷ 108 ∷ 101 ∷ 115 ∷ 32 ∷ refusedText n
+-- `tables refused N`, and where a rule is named the rule and its place behind it, `tables refused N R P`
+unfoldable pub tablesRefusedText : ℕ → Fault → List ℕ
+tablesRefusedText n f =
+    116 ∷ 97 ∷ 98 ∷ 108 ∷ 101 ∷ 115 ∷ 32 ∷ 114 ∷ 101 ∷ 102 ∷ 117 ∷ 115 ∷ 101 ∷ 100 ∷ 32 ∷ digit n ∷ cond (eqb (f .rule) 0) (10 ∷ []) (32 ∷ digit (f .rule) ∷ figure (32 ∷ []) (f .place))
+
+-- `tables refused 4 6 3904`
+last-float : tablesRefusedText 4 (record { rule = 6; place = 3904 }) ≡ 116 ∷ 97 ∷ 98 ∷ 108 ∷ 101 ∷ 115 ∷ 32 ∷ 114 ∷ 101 ∷ 102 ∷ 117 ∷ 115 ∷ 101 ∷ 100 ∷ 32 ∷ 52 ∷ 32 ∷ 54 ∷ 32 ∷ 51 ∷ 57 ∷ 48 ∷ 52 ∷ 10 ∷ []
+unfolding tablesRefusedText digit figure decimal decimalIn
+last-float = refl

@@ -11,6 +11,7 @@ ghost use Rattle.stream.specs.Room.{over};
 ghost use Rattle.hex.specs.Text as Text;
 ghost use Rattle.hex.specs.File as File;
 ghost use Rattle.hex.specs.Held as Held;
+use tables::Fault;
 
 // What is kept of the line that is coming in: its first 40 bytes, and how many it has, counted to 41.
 pub struct Line {
@@ -162,33 +163,6 @@ fn refused_text(number: u8) -> [u8; 10]
     [b'r', b'e', b'f', b'u', b's', b'e', b'd', b' ', n, b'\n']
 }
 
-// The one line of a refused table file.
-pub fn tables_refused_text(number: u8) -> [u8; 17]
-    requires { ⌜ number < 16 ⌝ }
-    ensures { λ r. ⌜ r ≡ Text.tablesRefusedText number ⌝ }
-{
-    let n = digit(number);
-    [
-        b't',
-        b'a',
-        b'b',
-        b'l',
-        b'e',
-        b's',
-        b' ',
-        b'r',
-        b'e',
-        b'f',
-        b'u',
-        b's',
-        b'e',
-        b'd',
-        b' ',
-        n,
-        b'\n',
-    ]
-}
-
 // The line of a refusal. The answer is its length.
 pub fn put_refused(number: u8, out: &mut [u8]) -> usize
     requires { ⌜ number < 16 ⌝ ∗ ⌜ 1283 ≤ length (now out) ⌝ }
@@ -198,6 +172,23 @@ pub fn put_refused(number: u8, out: &mut [u8]) -> usize
     let text = refused_text(number);
     stream::put(&text, out);
     10
+}
+
+// The one line of a refused table file, with the rule and the place that are named. The answer is its length.
+pub fn put_tables_refused(number: u8, told: Fault, out: &mut [u8]) -> usize
+    requires { ⌜ number < 16 ⌝ ∗ ⌜ told .rule < 16 ⌝ ∗ ⌜ 40 ≤ length (now out) ⌝ }
+    ensures length { λ r. ⌜ r ≡ length (Text.tablesRefusedText number told) ⌝ }
+    ensures text { λ _. ⌜ now (out .exit) ≡ over (Text.tablesRefusedText number told) (now (out .entry)) ⌝ }
+{
+    stream::put(b"tables refused ", out);
+    out[15] = digit(number);
+    if told.rule == 0 {
+        out[16] = b'\n';
+        return 17;
+    }
+    out[16] = b' ';
+    out[17] = digit(told.rule);
+    stream::put_figure(b" ", told.place as u64, 18, out)
 }
 
 // A word of the table file.

@@ -1,1 +1,2 @@
 mod Calls
+mod Refused

@@ -24,9 +24,9 @@ use Rattle.recording.specs.declared.Recorder.{Recorder}
 use Rattle.recording.specs.declared.Said.{Said}
 use Rattle.recording.specs.declared.Fed.{Fed}
 use Rattle.recording.specs.declared.Started.{Started}
-use Rattle.hex.specs.Text.{isFrame, isOnly, tablesRefusedText}
+use Rattle.hex.specs.Text.{isFrame, isOnly}
 use Rattle.hex.specs.File as File
-use Rattle.recording.specs.Recording.{event, text, lineStep, lineText, isStart, opening, transcriptOf, transcript, output, program}
+use Rattle.recording.specs.Recording.{event, text, lineStep, lineText, isStart, opening, transcriptOf, transcript, tablesText, output, program}
 
 -- ---- where a recording stands
 -- between two lines: whether its first is still to come, and the state
@@ -191,22 +191,22 @@ pub part-bytes : (file : List ℕ) → length file ≡ 15834 → take (length fi
 part-bytes file e = take-all (length file - 11926) (drop 11926 file) (omega (arith, length-drop 11926 file))
 
 -- the start: nothing is written, or the file's refusal; and where the recording then stands
-unfoldable pub startTextBy : ℕ → List ℕ
-startTextBy zero = []
-startTextBy (suc n) = tablesRefusedText (suc n)
+unfoldable pub startTextBy : ℕ → List ℕ → List ℕ
+startTextBy zero file = []
+startTextBy (suc n) file = tablesText (suc n) file
 
 unfoldable pub startText : List ℕ → List ℕ
-startText file = startTextBy (File.checkFile file)
+startText file = startTextBy (File.checkFile file) file
 
 unfoldable pub startedBy : ℕ → List ℕ → Started
 startedBy zero file = record { recorder = begin (File.words file) (File.bytes file); number = 0; n = 0 }
-startedBy (suc n) file = record { recorder = idle; number = suc n; n = 17 }
+startedBy (suc n) file = record { recorder = idle; number = suc n; n = length (tablesText (suc n) file) }
 
 unfoldable pub started : List ℕ → Started
 started file = startedBy (File.checkFile file) file
 
 -- which of the two it is, by the number
-pub started-refused : (file : List ℕ) (k : ℕ) → k ≡ File.checkFile file → (k ≡ 0 → ⊥) → (started file ≡ record { recorder = idle; number = k; n = 17 }) × (startText file ≡ tablesRefusedText k)
+pub started-refused : (file : List ℕ) (k : ℕ) → k ≡ File.checkFile file → (k ≡ 0 → ⊥) → (started file ≡ record { recorder = idle; number = k; n = length (tablesText k file) }) × (startText file ≡ tablesText k file)
 unfolding started startText startedBy startTextBy
 started-refused file zero e h = absurd (h refl)
 started-refused file (suc k) e h = rw (← e) (refl, refl)
@@ -240,10 +240,10 @@ module _ (file : List ℕ) where
   unfoldable pub spoken : List Read → List ℕ
   spoken reads = startText file ++ cond (eqb (started file .number) 0) (answers fedBy writtenBy endingBy (started file .recorder) reads) []
 
-  spoken-by : (n : ℕ) (reads : List Read) → startTextBy n ++ cond (eqb (startedBy n file .number) 0) (answers fedBy writtenBy endingBy (startedBy n file .recorder) reads) [] ≡ output n file (inputOf reads)
+  spoken-by : (n : ℕ) (reads : List Read) → startTextBy n file ++ cond (eqb (startedBy n file .number) 0) (answers fedBy writtenBy endingBy (startedBy n file .recorder) reads) [] ≡ output n file (inputOf reads)
   unfolding startTextBy startedBy output
   spoken-by zero reads = transcript-told (File.words file) (File.bytes file) reads
-  spoken-by (suc n) reads = rw (ne-eqb (suc n) 0 (λ e. omega arith)) (append-nil (tablesRefusedText (suc n)))
+  spoken-by (suc n) reads = rw (ne-eqb (suc n) 0 (λ e. omega arith)) (append-nil (tablesText (suc n) file))
 
   pub program-told : (reads : List Read) → spoken reads ≡ program file (inputOf reads)
   unfolding spoken startText started program

@@ -13,7 +13,7 @@ use Rattle.stream.specs.Lines.{pieces, ofPieces, lines}
 use Rattle.stream.specs.Told.{texts}
 use Rattle.celp.specs.declared.State.{State}
 use Rattle.celp.specs.declared.Answer.{Answer}
-use Rattle.celp.specs.State.{reset, coldStart}
+use Rattle.celp.specs.State.{fault, reset, coldStart}
 use Rattle.celp.specs.Celp as Celp
 use Rattle.celp.specs.Run.{Event, heard, missed, step}
 use Rattle.hex.specs.Text.{digit, isFrame, isOnly, payload, frameText, refusedText, tablesRefusedText}
@@ -66,17 +66,21 @@ transcriptOf words bytes o = texts (lineStep words bytes) (lineText words bytes)
 unfoldable pub transcript : List ℤ → List ℕ → List ℕ → List ℕ
 transcript words bytes input = transcriptOf words bytes (opening words bytes (lines input))
 
+-- the one line of a table file that is refused, with the rule and the place that refusal 4 names
+unfoldable pub tablesText : ℕ → List ℕ → List ℕ
+tablesText n file = tablesRefusedText n (fault n (File.words file) (File.bytes file))
+
 -- all that the program writes, by the table file's refusal number
 unfoldable pub output : ℕ → List ℕ → List ℕ → List ℕ
 output zero file input = transcript (File.words file) (File.bytes file) input
-output (suc n) file input = tablesRefusedText (suc n)
+output (suc n) file input = tablesText (suc n) file
 
 unfoldable pub program : List ℕ → List ℕ → List ℕ
 program file input = output (File.checkFile file) file input
 
 -- ---- the first 15,835 bytes of a table file tell what all of them do: one that is longer is refused as it is
 pub first-bytes : (file input : List ℕ) → program (take 15835 file) input ≡ program file input
-unfolding program File.checkFile output
+unfolding program File.checkFile output tablesText fault
 first-bytes file input = by (ltb 15835 (length file)) refl
   where
     by : (long : Bool) → ltb 15835 (length file) ≡ long → program (take 15835 file) input ≡ program file input
@@ -89,7 +93,7 @@ first-bytes file input = by (ltb 15835 (length file)) refl
 -- ---- examples
 -- a missing table file, whatever the input
 no-file : (input : List ℕ) → program [] input ≡ 116 ∷ 97 ∷ 98 ∷ 108 ∷ 101 ∷ 115 ∷ 32 ∷ 114 ∷ 101 ∷ 102 ∷ 117 ∷ 115 ∷ 101 ∷ 100 ∷ 32 ∷ 49 ∷ 10 ∷ []
-unfolding program File.checkFile output tablesRefusedText refusedText digit
+unfolding program File.checkFile output tablesText fault tablesRefusedText digit
 no-file input = refl
 
 -- an empty recording, and one of `+` alone, with its newline and without, have no line to answer

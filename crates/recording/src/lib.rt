@@ -15,6 +15,7 @@ ghost use Rattle.celp.specs.Run.{heard};
 ghost use Rattle.celp.specs.State as Start;
 use celp::State;
 use hex::Line;
+use tables::Fault;
 
 // Where a recording stands: whether its first line is still to come, the decoder's state, and the line that is coming in.
 pub struct Recorder {
@@ -65,9 +66,22 @@ fn idle() -> Recorder
     from_cold(&words, &bytes)
 }
 
+// A table file that is refused: its line goes over the beginning of room. The answer is its length.
+fn refuse(number: u8, words: &[i16], file: &[u8], room: &mut [u8]) -> usize
+    requires { ⌜ number ≡ File.checkFile (now file) ⌝ ∗ ⌜ (number ≡ 4 → Feed.Tables (now words) (now file)) ⌝ ∗ ⌜ 40 ≤ length (now room) ⌝ }
+    ensures length { λ r. ⌜ r ≡ length (Recording.tablesText number (now (file .entry))) ⌝ }
+    ensures text { λ _. ⌜ now (room .exit) ≡ over (Recording.tablesText number (now (file .entry))) (now (room .entry)) ⌝ }
+{
+    if number == 4 {
+        let told = tables::first_fault(words, &file[11926..]);
+        return hex::put_tables_refused(number, told, room);
+    }
+    hex::put_tables_refused(number, Fault { rule: 0, place: 0 }, room)
+}
+
 // The start from the table file's bytes, of which the first 15,835 are enough: its words are put, and its refusal goes over the beginning of room.
 pub fn begin(file: &[u8], words: &mut [i16], room: &mut [u8]) -> Started
-    requires { ⌜ length (now words) ≡ WORDS ⌝ ∗ ⌜ 17 ≤ length (now room) ⌝ }
+    requires { ⌜ length (now words) ≡ WORDS ⌝ ∗ ⌜ 40 ≤ length (now room) ⌝ }
     ensures started { λ r. ⌜ r ≡ Feed.started (now (file .entry)) ⌝ }
     ensures words { λ _. ⌜ now (words .exit) ≡ File.wordsOr (now (file .entry)) (now (words .entry)) ⌝ }
     ensures text { λ _. ⌜ now (room .exit) ≡ over (Feed.startText (now (file .entry))) (now (room .entry)) ⌝ }
@@ -76,12 +90,11 @@ pub fn begin(file: &[u8], words: &mut [i16], room: &mut [u8]) -> Started
 {
     let number = hex::check_file(file, words);
     if number != 0 {
-        let text = hex::tables_refused_text(number);
-        stream::put(&text, room);
+        let n = refuse(number, words, file, room);
         return Started {
             recorder: idle(),
             number,
-            n: 17,
+            n,
         };
     }
     Started {

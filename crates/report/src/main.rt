@@ -93,7 +93,7 @@ fn count(words: &[i16], file: &[u8], start: Recorder)
 fn main() {
     let mut file = [0u8; 15835];
     let mut words = [0i16; 5963];
-    let mut room = [0u8; 17];
+    let mut room = [0u8; 40];
     let got = pipe::read_file(b"tables.bin", &mut file);
     if got.failed {
         os::fail(b"report: cannot read tables.bin");

@@ -16,9 +16,9 @@ use Rattle.stream.specs.Reads.{Read, inputOf, answers-joined}
 use Rattle.stream.specs.Told.{after, texts, told, last, Machine, reads-told}
 use Rattle.celp.specs.State.{coldStart}
 use Rattle.hex.specs.declared.Line.{Line}
-use Rattle.hex.specs.Text.{isFrame, isOnly, tablesRefusedText}
+use Rattle.hex.specs.Text.{isFrame, isOnly}
 use Rattle.hex.specs.File as File
-use Rattle.recording.specs.Recording.{event, isStart}
+use Rattle.recording.specs.Recording.{event, isStart, tablesText}
 use Rattle.recording.specs.Feed as Recording
 use Rattle.hex.specs.Held.{kept, push, heldLine}
 use Rattle.tally.specs.declared.Tally.{Tally}
@@ -178,13 +178,13 @@ module _ (file : List ℕ) where
   unfoldable pub told-by : List Read → List ℕ
   told-by reads = Recording.startText file ++ cond (eqb (started file .number) 0) (endingBy (fedReads (File.words file) (File.bytes file) (started file .recorder) reads)) []
 
-  by-number : (n : ℕ) (reads : List Read) → Recording.startTextBy n ++ cond (eqb (Recording.startedBy n file .number) 0) (endingBy (fedReads (File.words file) (File.bytes file) (record { first = Recording.startedBy n file .recorder .first; state = Recording.startedBy n file .recorder .state; line = Recording.startedBy n file .recorder .line; tally = tally 0 [] }) reads)) [] ≡ output n file (inputOf reads)
+  by-number : (n : ℕ) (reads : List Read) → Recording.startTextBy n file ++ cond (eqb (Recording.startedBy n file .number) 0) (endingBy (fedReads (File.words file) (File.bytes file) (record { first = Recording.startedBy n file .recorder .first; state = Recording.startedBy n file .recorder .state; line = Recording.startedBy n file .recorder .line; tally = tally 0 [] }) reads)) [] ≡ output n file (inputOf reads)
   unfolding Recording.startTextBy Recording.startedBy Recording.begin output
   by-number zero reads =
       reads-fed (File.words file) (File.bytes file) (at (File.words file) (File.bytes file) (place true (coldStart (File.words file) (File.bytes file) .state) (tally 0 [])) []) reads
       ∙ report-told (File.words file) (File.bytes file) (place true (coldStart (File.words file) (File.bytes file) .state) (tally 0 [])) reads
       ∙ ap report (carried-all (File.words file) (File.bytes file) (lines (inputOf reads)))
-  by-number (suc n) reads = rw (ne-eqb (suc n) 0 (λ e. omega arith)) (append-nil (tablesRefusedText (suc n)))
+  by-number (suc n) reads = rw (ne-eqb (suc n) 0 (λ e. omega arith)) (append-nil (tablesText (suc n) file))
 
   pub program-told : (reads : List Read) → told-by reads ≡ program file (inputOf reads)
   unfolding told-by started Recording.startText Recording.started program

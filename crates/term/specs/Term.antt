@@ -11,9 +11,9 @@ use Rattle.celp.specs.declared.State.{State}
 use Rattle.celp.specs.declared.Answer.{Answer}
 use Rattle.celp.specs.Celp as Celp
 use Rattle.celp.specs.Run.{Event, heard, missed}
-use Rattle.hex.specs.Text.{isOnly, tablesRefusedText}
+use Rattle.hex.specs.Text.{isOnly}
 use Rattle.hex.specs.File as File
-use Rattle.recording.specs.Recording.{event, lineStep, opening}
+use Rattle.recording.specs.Recording.{event, lineStep, opening, tablesText}
 use Rattle.tally.specs.declared.Tally.{Tally}
 use Rattle.tally.specs.Figures.{Outcome, tally, LIMIT}
 use Rattle.term_text.specs.Report.{report}
@@ -83,7 +83,7 @@ tallyOf words bytes ls = tally (length ls) (outcomes words bytes ls)
 -- by the table file's refusal number; reading stops at LIMIT lines
 unfoldable pub output : ℕ → List ℕ → List ℕ → List ℕ
 output zero file input = report (tallyOf (File.words file) (File.bytes file) (take LIMIT (lines input)))
-output (suc n) file input = tablesRefusedText (suc n)
+output (suc n) file input = tablesText (suc n) file
 
 unfoldable pub program : List ℕ → List ℕ → List ℕ
 program file input = output (File.checkFile file) file input

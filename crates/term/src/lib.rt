@@ -120,7 +120,7 @@ fn end_line(
 
 // The start from the table file's bytes, of which the first 15,835 are enough: its words are put, and its refusal goes over the beginning of room.
 pub fn begin(file: &[u8], words: &mut [i16], room: &mut [u8]) -> Started
-    requires { ⌜ length (now words) ≡ 5963 ⌝ ∗ ⌜ 17 ≤ length (now room) ⌝ }
+    requires { ⌜ length (now words) ≡ 5963 ⌝ ∗ ⌜ 40 ≤ length (now room) ⌝ }
     ensures started { λ r. ⌜ r ≡ Feed.started (now (file .entry)) ⌝ }
     ensures words { λ _. ⌜ now (words .exit) ≡ File.wordsOr (now (file .entry)) (now (words .entry)) ⌝ }
     ensures text { λ _. ⌜ now (room .exit) ≡ over (Recording.startText (now (file .entry))) (now (room .entry)) ⌝ }

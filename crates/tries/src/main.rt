@@ -40,7 +40,7 @@ fn play(words: &[i16], file: &[u8], start: Recorder, input: &[u8])
 fn attempt(tables: &[u8], name: &[u8]) {
     let mut file = [0u8; 15835];
     let mut words = [0i16; 5963];
-    let mut room = [0u8; 17];
+    let mut room = [0u8; 40];
     let got = pipe::read_file(tables, &mut file);
     let n = got.n;
     let start = recording::begin(&file[..n], &mut words, &mut room);

@@ -1,9 +1,10 @@
 -- Refused, or else the frame of the payload's fields, which an accepted payload has.
 use borrow.Author.Needs.{needs}
 use denote.Ref.{now}
-use mathlib.Core.Path.{ap, _∙_}
+use mathlib.Core.Path.{sym, ap, _∙_}
 use Rattle.bits.specs.Bits.{fields}
 use Rattle.celp.specs.Cases.{decode-refused, samples-refused}
+use Rattle.celp.specs.Faults.{four-set}
 use Rattle.celp.proofs.Refusals.{ready}
 use Rattle.celp.proofs.decode.Statement.{statement}
 use Rattle.celp.proofs.decode.Tie as tie
@@ -17,13 +18,17 @@ fields-requires c κs = search needs
 refusal-requires : tie.Need-refusal-requires
 refusal-requires c κs = c .fields .ensures ∙ ap fields (c .before .unpack .ensures .0)
 
+fault-requires : tie.Need-fault-requires
+fault-requires c κs = λ e. four-set _ _ _ _ _ (sym (c .before .refusal .ensures) ∙ e)
+
 refused-requires : tie.Need-refused-requires
 refused-requires c κs = search needs
 
 returns : tie.Need-returns
 returns c =
-    let n = c .before .before .refusal in
-    (c .refused .ensures ∙ decode-refused _ _ _ _ _ _ (n .ensures) (c .before .if1 .taken), samples-refused _ _ _ _ _ _ (n .ensures) (c .before .if1 .taken))
+    let t = c .before .before in
+    let n = t .before .refusal in
+    (c .refused .ensures ∙ rw (c .before .fault .ensures) (decode-refused _ _ _ _ _ _ (n .ensures) (t .if1 .taken)), samples-refused _ _ _ _ _ _ (n .ensures) (t .if1 .taken))
 
 carried-requires : tie.Need-carried-requires
 carried-requires c κs = search needs
@@ -56,6 +61,7 @@ decode-spec =
     unpack-requires
     fields-requires
     refusal-requires
+    fault-requires
     refused-requires
     returns
     carried-requires

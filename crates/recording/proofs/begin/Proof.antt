@@ -1,11 +1,12 @@
 -- The file's number decides.
 use borrow.Author.Needs.{needs}
-use mathlib.Core.Path.{_≡_, refl, sym, ap, _∙_}
+use mathlib.Core.Path.{_≡_, refl, sym, _∙_}
 use native.Mathlib.Omega.{arith}
-use lib.ListN.{length}
 use Rattle.stream.specs.Room.{over-none, over-counts}
-use Rattle.hex.specs.Text.{refusedText, tablesRefusedText}
-use Rattle.hex.specs.File.{checkFile, file-number-small, accepted-long, accepted-words}
+use Rattle.celp.specs.State.{fault}
+use Rattle.hex.specs.File.{words, bytes, checkFile, long-file, long-words, accepted-long, accepted-words}
+use Rattle.hex.specs.Lengths.{tables-refused-long}
+use Rattle.recording.specs.Recording.{tablesText}
 use Rattle.recording.specs.Feed.{started-refused, started-ready, part-bytes}
 use Rattle.recording.proofs.begin.Statement.{statement}
 use Rattle.recording.proofs.begin.Tie as tie
@@ -13,16 +14,12 @@ use Rattle.recording.proofs.begin.Tie as tie
 check-file-requires : tie.Need-check-file-requires
 check-file-requires c κs = search needs
 
-tables-refused-text-requires : tie.Need-tables-refused-text-requires
-tables-refused-text-requires c κs =
-    let f = file-number-small (c .before .before .before .before .before .before .args .file .now) (c .before .before .check-file .ensures .0) in
-    omega arith
-
-slice-aggregate-put : tie.Need-slice-aggregate-put
-slice-aggregate-put c = search needs
-
-put-requires : tie.Need-put-requires
-put-requires c κs = search needs
+refuse-requires : tie.Need-refuse-requires
+refuse-requires c κs =
+    let t = c .before .before in
+    let s = t .before .before .before .before .before .before in
+    let n = t .before .before .check-file .ensures in
+    (n .0, ((λ e. let h = long-file (s .args .file .now) (λ z. omega arith) in record { long = h; are = n .1 ∙ long-words (s .args .file .now) (s .args .words .now) h }), search needs))
 
 idle-requires : tie.Need-idle-requires
 idle-requires c κs = search needs
@@ -34,16 +31,15 @@ same-length-2 : tie.Need-same-length-2
 same-length-2 c = search needs
 
 returns : tie.Need-returns
-unfolding tablesRefusedText refusedText
+unfolding tablesText
 returns c =
-    let t = c .before .before .before .before .before .before .before in
+    let t = c .before .before .before .before .before .before in
     let s = t .before .before .before .before .before .before .args in
     let n = t .before .before .check-file .ensures in
     let k = started-refused (s .file .now) _ (n .0) (t .if1 .taken) in
-    let x = c .before .before .before .before .before .before .tables-refused-text in
-    let p = c .before .before .before .put .ensures in
-    let m : 17 ≡ length (x .result) = sym (ap length (x .ensures)) in
-    (rw (k .0, c .idle .ensures), (n .1, (p ∙ rw (x .ensures, k .1), ((λ e. absurd (t .if1 .taken e)), over-counts _ _ 17 p m (omega arith)))))
+    let r = c .before .before .before .refuse .ensures in
+    let l = tables-refused-long (t .before .before .check-file .result) (fault (t .before .before .check-file .result) (words (s .file .now)) (bytes (s .file .now))) in
+    (rw (k .0, c .idle .ensures, r .0), (n .1, (rw (k .1) (r .1), ((λ e. absurd (t .if1 .taken e)), over-counts _ _ _ (r .1) (r .0) (omega arith)))))
 
 sub-from-cold : tie.Need-sub-from-cold
 sub-from-cold c =
@@ -80,9 +76,7 @@ begin-spec =
     tie.close
     (tie.spec
     check-file-requires
-    tables-refused-text-requires
-    slice-aggregate-put
-    put-requires
+    refuse-requires
     idle-requires
     same-length
     same-length-2
