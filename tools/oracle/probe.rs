@@ -23,7 +23,7 @@ fn questions(module: &str, seed: u64) -> Vec<Question> {
     match module {
         "fixed" => fixed_questions(&mut r),
         "synth" => synth_questions(&mut r),
-        "bits" => bits_questions(&mut r),
+        "bits" | "receiver" => bits_questions(&mut r),
         "lsp" => lsp_questions(&mut r),
         "pitch" => pitch_questions(&mut r),
         "codebook" => codebook_questions(&mut r),
@@ -41,6 +41,7 @@ fn answer(module: &str, q: &[i64]) -> Vec<i64> {
         "fixed" => fixed_answer(q),
         "synth" => synth_answer(q),
         "bits" => bits_answer(q),
+        "receiver" => receiver_answer(q),
         "lsp" => lsp_answer(q),
         "pitch" | "narrow" => pitch_answer(q),
         "codebook" => codebook_answer(q),
@@ -243,10 +244,22 @@ pub fn fields(payload: &[u8; 20]) -> Option<[u16; FIELDS]> {
     out.try_into().ok()
 }
 
+fn payload(q: &[i64]) -> [u8; 20] {
+    let bytes: Vec<u8> = q.iter().map(|&x| x as u8).collect();
+    bytes.try_into().unwrap()
+}
+
+// the 158 digits, or 6
+fn receiver_answer(q: &[i64]) -> Vec<i64> {
+    match post_fec::receiver_bits(&payload(q)) {
+        Ok(digits) => digits.iter().map(|&d| d as i64).collect(),
+        Err(_) => vec![6],
+    }
+}
+
 // the number, the fields, and where accepted the payload, which the packer must give back, and the four gain indexes
 fn bits_answer(q: &[i64]) -> Vec<i64> {
-    let payload: Vec<u8> = q.iter().map(|&x| x as u8).collect();
-    let payload: [u8; 20] = payload.try_into().unwrap();
+    let payload = payload(q);
     match (fields(&payload), params(&payload)) {
         (Some(f), Some(p)) => {
             let gains = p.halves.iter().flat_map(|h| [0, 1].map(|sub| h.gain_index(sub) as i64));

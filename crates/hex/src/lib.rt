@@ -106,7 +106,8 @@ pub fn payload(text: [u8; 40]) -> [u8; 20]
     bytes
 }
 
-fn digit(n: u8) -> u8
+// The digit of a number below 16, lower-case.
+pub fn digit(n: u8) -> u8
     requires { ⌜ n < 16 ⌝ }
     ensures { λ r. ⌜ r ≡ Text.digit n ⌝ }
 {

@@ -3,3 +3,4 @@ pub mod Order
 pub mod Lines
 pub mod RoundTrips
 pub mod ReceivedFields
+pub mod Calls

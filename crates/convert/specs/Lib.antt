@@ -1,0 +1,5 @@
+pub mod Convert
+pub mod Worked
+pub mod Halves
+pub mod Feed
+pub mod Back

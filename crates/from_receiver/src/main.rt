@@ -1,0 +1,6 @@
+// Frames in a receiver's digits as hexadecimal.
+use convert::Way;
+
+fn main() {
+    convert_console::run(Way::FromReceiver);
+}
