@@ -12,7 +12,7 @@ use Rattle.sequence.specs.All.{all-of, and-left}
 use Rattle.stream.specs.Lines.{pieces, ofPieces, lines, plain, line-first}
 use Rattle.stream.specs.Told.{texts}
 use Rattle.stream.specs.Decimal.{decimalIn, decimal, figure}
-use Rattle.hex.specs.Text.{digit, value, isFrame, payload}
+use Rattle.hex.specs.Text.{isOnly, digit, value, isFrame, payload}
 use Rattle.receiver.specs.Receiver.{lineOf, frameOf, isLine, answer, writeNumber, written, readNumber, taken}
 use Rattle.receiver.specs.Lines.{line-length, line-digit}
 use Rattle.receiver.specs.RoundTrips.{read-written, read-accepted}
@@ -56,12 +56,12 @@ abbrev word : ℕ → List ℕ
 word d = 114 ∷ 101 ∷ 102 ∷ 117 ∷ 115 ∷ 101 ∷ 100 ∷ 32 ∷ d ∷ []
 
 word-refused : (first : Bool) (d : ℕ) → text FromReceiver first (word d) ≡ refused 10
-unfolding text isPlus fromReceiver readNumber isLine lineOr
+unfolding text isOnly fromReceiver readNumber isLine lineOr
 word-refused first d = rw (no-plus first)
 
 module _ (first : Bool) (line : List ℕ) where
   kept : first && isPlus line ≡ true → Back first line
-  unfolding text back isPlus
+  unfolding text back isOnly
   kept e = record {
     there = 43 ∷ [];
     goes = rw e;
@@ -80,7 +80,7 @@ module _ (first : Bool) (line : List ℕ) where
     }
 
     accepted : isFrame line ≡ true → writeNumber (payload line) ≡ 0 → Back first line
-    unfolding text back isPlus toReceiver toNumber lineOr fromReceiver readNumber
+    unfolding text back isOnly toReceiver toNumber lineOr fromReceiver readNumber
     accepted f e =
         let a = frame-again (payload line) (payload-bytes line f) e in
         record {

@@ -3,11 +3,10 @@ use Prim.Native.Nat.{ℕ, _/_, _%_}
 use mathlib.Core.List.{List, [], _∷_, _++_}
 use mathlib.Core.Bool.{Bool, true, false, cond, _&&_}
 use lib.Dec.{eqb}
-use lib.ListN.{length, getD}
 use Rattle.stream.specs.Lines.{lines}
 use Rattle.stream.specs.Told.{texts}
 use Rattle.stream.specs.Decimal.{figure}
-use Rattle.hex.specs.Text.{digit, isFrame, payload}
+use Rattle.hex.specs.Text.{digit, isFrame, isOnly, payload}
 use Rattle.receiver.specs.Receiver.{lineOf, frameOf, writeNumber, readNumber}
 use Rattle.convert.specs.declared.Way.{Way}
 use Rattle.convert.specs.declared.Way.the-variants.{ToReceiver, FromReceiver}
@@ -43,8 +42,8 @@ converted FromReceiver line = fromReceiver line
 
 -- ---- a file
 -- `+` and nothing else
-unfoldable pub isPlus : List ℕ → Bool
-isPlus line = eqb (length line) 1 && eqb (getD line 0 0) 43
+abbrev pub isPlus : List ℕ → Bool
+isPlus line = isOnly 43 line
 
 -- what a line is answered, by whether it is the first: there a `+` is kept
 unfoldable pub text : Way → Bool → List ℕ → List ℕ

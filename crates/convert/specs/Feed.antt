@@ -12,14 +12,14 @@ use Rattle.stream.specs.Machine.{fedAll, writtenAll}
 use Rattle.stream.specs.Reads.{Read, inputOf, answers, Took}
 use Rattle.stream.specs.Reads as Reads
 use Rattle.stream.specs.Told.{told, last, Machine, reads-told}
-use Rattle.hex.specs.Text.{isFrame}
+use Rattle.hex.specs.Text.{isOnly, isFrame}
 use Rattle.receiver.specs.Receiver.{isLine, readNumber}
 use Rattle.convert.specs.declared.Way.{Way}
 use Rattle.convert.specs.declared.Way.the-variants.{ToReceiver, FromReceiver}
 use Rattle.convert.specs.declared.Held.{Held}
 use Rattle.convert.specs.declared.Converter.{Converter}
 use Rattle.convert.specs.declared.Fed.{Fed}
-use Rattle.convert.specs.Convert.{lineOr, toNumber, toReceiver, fromReceiver, isPlus, text, step, program}
+use Rattle.convert.specs.Convert.{lineOr, toNumber, toReceiver, fromReceiver, text, step, program}
 
 -- ---- what is held of a line
 unfoldable pub kept : List ℕ → Held
@@ -53,7 +53,7 @@ fed r b = cond (eqb b 10) (standing false (kept [])) (standing (r .first) (push 
 
 -- a line that is too long is refused as an empty one is
 pub too-long : (way : Way) (first : Bool) (line : List ℕ) → 162 < length line → text way first line ≡ text way first []
-unfolding text isPlus toReceiver toNumber isFrame fromReceiver readNumber isLine lineOr
+unfolding text isOnly toReceiver toNumber isFrame fromReceiver readNumber isLine lineOr
 too-long ToReceiver first line h = rw (ne-eqb (length line) 1 (λ e. omega arith), ne-eqb (length line) 40 (λ e. omega arith))
 too-long FromReceiver first line h = rw (ne-eqb (length line) 1 (λ e. omega arith), ne-eqb (length line) 162 (λ e. omega arith))
 

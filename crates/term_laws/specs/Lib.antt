@@ -3,3 +3,4 @@ pub mod Sums
 pub mod Outcomes
 pub mod Totals
 pub mod Joined
+pub mod FileWords
