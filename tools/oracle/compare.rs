@@ -15,9 +15,10 @@ pub struct Tally {
     pub met: [u64; MET.len()],
 }
 
-pub const MET: [&str; 8] = [
+pub const MET: [&str; 9] = [
     "an LSP of -32,768",
     "a residual of 0",
+    "a subframe with several",
     "a negative residual",
     "a subnormal float",
     "a gain or residual beyond 32,768",
@@ -75,7 +76,7 @@ fn one(launch: &str, folder: &std::path::Path, kind: &str, seed: u64, frames: u6
     answer
 }
 
-/// So many sets of each kind (the bare set is one), so many lines each. Stops at the first difference.
+/// So many sets of each kind (the bare set and two_zeros are one each), so many lines each. Stops at the first difference.
 pub fn all(launch: &str, each: u64, lines: usize) -> bool {
     let folder = std::env::temp_dir().join(format!("compare-{}", std::process::id()));
     std::fs::create_dir(&folder).unwrap();
@@ -84,7 +85,7 @@ pub fn all(launch: &str, each: u64, lines: usize) -> bool {
     let mut sets = 0;
     let mut equal = true;
     'sets: for (k, kind) in sets::KINDS.into_iter().enumerate() {
-        for seed in 1..=if kind == "bare" { 1 } else { each } {
+        for seed in 1..=if ["bare", "two_zeros"].contains(&kind) { 1 } else { each } {
             let frames = 100 * (k as u64 + 1) + seed;
             let name = format!("{kind}, set seed {seed}, frames seed {frames}");
             match one(launch, &folder, kind, seed, frames, lines) {

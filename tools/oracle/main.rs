@@ -9,6 +9,8 @@
 //! oracle compare LAUNCH SETS LINES      `LAUNCH trace` on sets of every kind, every figure compared (compare.rs)
 //! oracle frames COUNT [SEED]            that many random frames as lines of hexadecimal, damaged ones among them
 //! oracle recording TABLES COUNT [SEED]  that many lines, most of them frames that the set accepts (recordings.rs)
+//! oracle two_zeros TRIES [SEED]         of so many random LSP sets those by which the reflection recursion meets a residual of 0 more than once
+//!                                       (probe.rs): the LSPs, the LPC numbers, how often
 //! oracle set KIND [SEED]                a table set of 15,834 bytes (sets.rs says which kinds)
 use std::io::{self, BufRead, Read, Write};
 
@@ -102,6 +104,13 @@ fn main() {
             let count: usize = words[1].parse().expect("a count");
             let seed = words.get(2).map_or(1, |s| s.parse().expect("a seed"));
             frames(count, seed, &mut out);
+        }
+        Some("two_zeros") => {
+            let tries: u64 = words[1].parse().expect("a count");
+            let seed = words.get(2).map_or(1, |s| s.parse().expect("a seed"));
+            for found in Native::two_zeros(tries, seed) {
+                writeln!(out, "{}", show(&found)).unwrap();
+            }
         }
         Some("set") => {
             let seed = words.get(2).map_or(1, |s| s.parse().expect("a seed"));

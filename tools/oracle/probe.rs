@@ -16,6 +16,9 @@ impl Native {
     pub fn answer(module: &str, q: &[i64]) -> Vec<i64> {
         answer(module, q)
     }
+    pub fn two_zeros(tries: u64, seed: u64) -> Vec<Question> {
+        two_zeros(tries, seed)
+    }
 }
 
 fn questions(module: &str, seed: u64) -> Vec<Question> {
@@ -145,9 +148,10 @@ fn fixed_answer(q: &[i64]) -> Vec<i64> {
         8 => vec![exp(v) as i64],
         9 => vec![shift(v, q[2] as i32)],
         10 => vec![restoring_divide(v, q[2] as i16, q[3] as u32)],
+        // and 1 where it is the reciprocal of 0, which the Rust does not say
         _ => {
             let (quotient, shift) = normalised_reciprocal(v);
-            vec![quotient, shift as i64]
+            vec![quotient, shift as i64, (acc(v) == 0) as i64]
         }
     }
 }
@@ -273,7 +277,14 @@ fn numbers(w: &[i16]) -> Vec<i64> {
     w.iter().map(|&x| x as i64).collect()
 }
 
-// 0 lsf_to_lsp of ten, 1 lsp_to_lpc of ten, 2 midpoint of ten and ten, 3 reflection_coefficients of eleven
+/// LSP sets by which the reflection recursion meets a residual of 0 twice; `oracle two_zeros 3000000` finds them.
+const TWO_ZEROS: [[i16; 10]; 3] = [
+    [1, 1, -1, 0, -65, 0, 107, 21925, 0, 0],
+    [-52, -32768, 0, 7, -1, -16, 1, 90, 16384, -5],
+    [296, -3, -64, -2, -32768, -3, -1330, -2, -11288, 3820],
+];
+
+// 0 lsf_to_lsp of ten, 1 lsp_to_lpc of ten, 2 midpoint of ten and ten, 3 reflection_coefficients of eleven, and how many of its residuals are 0
 fn lsp_questions(r: &mut Random) -> Vec<Question> {
     let mut all = Vec::new();
     for n in 0..80 {
@@ -329,7 +340,33 @@ fn lsp_questions(r: &mut Random) -> Vec<Question> {
         }
         all.push([vec![3], a].concat());
     }
+    for l in TWO_ZEROS {
+        all.push([vec![1], numbers(&l)].concat());
+        all.push([vec![3], numbers(&lsp::lsp_to_lpc(&l))].concat());
+    }
     all
+}
+
+/// At how many of its nine steps the recursion meets a residual of 0. The Rust does not say it: this is the recursion's condition, once more, at the
+/// coefficient that each step takes, which is the one that the recursion leaves at that place.
+pub fn zero_residuals(lpc: &[i16; 11]) -> u8 {
+    let zero = |&&kv: &&i16| acc((16384 << 16) - shift(acc(mul(kv, kv)), 5)) == 0;
+    lsp::reflection_coefficients(lpc)[1..].iter().filter(zero).count() as u8
+}
+
+/// LSP sets, of so many random ones, that lead to more than one such step, with their LPC numbers.
+fn two_zeros(tries: u64, seed: u64) -> Vec<Question> {
+    let mut r = Random::new(seed);
+    let mut found = Vec::new();
+    for _ in 0..tries {
+        let l: [i16; 10] = std::array::from_fn(|_| r.word() as i16);
+        let lpc = lsp::lsp_to_lpc(&l);
+        let n = zero_residuals(&lpc);
+        if 1 < n {
+            found.push([numbers(&l), numbers(&lpc), vec![n as i64]].concat());
+        }
+    }
+    found
 }
 
 fn lsp_answer(q: &[i64]) -> Vec<i64> {
@@ -341,7 +378,11 @@ fn lsp_answer(q: &[i64]) -> Vec<i64> {
             &w[..10].try_into().unwrap(),
             &w[10..].try_into().unwrap(),
         )),
-        _ => numbers(&lsp::reflection_coefficients(&w[..].try_into().unwrap())),
+        _ => {
+            let lpc = w[..].try_into().unwrap();
+            let zeros = zero_residuals(&lpc) as i64;
+            [numbers(&lsp::reflection_coefficients(&lpc)), vec![zeros]].concat()
+        }
     }
 }
 

@@ -10,11 +10,12 @@
 //! lowest         speech, with cosines that give LSPs of -32,768
 //! zero_residual  speech, with cosines that stand still or rise, so that the last LPC number is 4,096 or more
 //! odd_radix      speech, with odd radices, inverses that are off, radices and inverses of any 16 bits, classes that are empty
+//! two_zeros      bare, with cosines that give every frame the same LSPs, by which two residuals of a subframe are 0; one set, whatever the seed
 use crate::lent::{BYTES, WORDS};
 use crate::random::Random;
 use std::f64::consts::PI;
 
-pub const KINDS: [&str; 10] = [
+pub const KINDS: [&str; 11] = [
     "bare",
     "smooth",
     "speech",
@@ -25,6 +26,7 @@ pub const KINDS: [&str; 10] = [
     "lowest",
     "zero_residual",
     "odd_radix",
+    "two_zeros",
 ];
 
 pub fn set(kind: &str, seed: u64) -> Vec<u8> {
@@ -32,7 +34,7 @@ pub fn set(kind: &str, seed: u64) -> Vec<u8> {
     let mut words = vec![0i16; WORDS];
     let mut floats = vec![0f32; BYTES / 4];
     bare(&mut words);
-    if !["bare", "extreme"].contains(&kind) {
+    if !["bare", "extreme", "two_zeros"].contains(&kind) {
         speech(&mut r, &mut words, &mut floats);
     }
     match kind {
@@ -45,6 +47,7 @@ pub fn set(kind: &str, seed: u64) -> Vec<u8> {
         "lowest" => lowest(&mut r, &mut words),
         "zero_residual" => zero_residual(&mut r, seed, &mut words),
         "odd_radix" => odd_radix(&mut r, &mut words),
+        "two_zeros" => two_zeros(&mut words),
         _ => panic!("no set {kind}: one of {KINDS:?}"),
     }
     let words = words.iter().flat_map(|w| w.to_le_bytes());
@@ -347,6 +350,14 @@ fn zero_residual(r: &mut Random, seed: u64, words: &mut [i16]) {
     for i in 128..138 {
         words[i] = words[6 * (i - 128) + 3];
     }
+}
+
+/// Where every float is 0 the frequencies are 41, 362 and so on up to 2930, whose cosines stand in entries 0, 0, 1, 2, 3, 4, 4, 5, 6 and 7.
+/// These make them the first of probe.rs's TWO_ZEROS; entry 4 has a slope, since the sixth and the seventh differ.
+fn two_zeros(words: &mut [i16]) {
+    words[..8].copy_from_slice(&[1, -1, 0, -65, -11, 21925, 0, 0]);
+    words[64 + 4] = 2130;
+    words[128..138].copy_from_slice(&[1, 1, -1, 0, -65, 0, 107, 21925, 0, 0]);
 }
 
 fn odd_radix(r: &mut Random, words: &mut [i16]) {

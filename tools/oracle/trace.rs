@@ -1,6 +1,6 @@
 //! Every figure of every frame of a recording, as the Rust gives it: a line a part, numbers in decimal, floats by their bits.
 //! The mark, and refusals 7 and 9, are document 01's, and a first line `+` is document 02's; the Rust has none of them.
-use super::{lsp, postfilter::OutputFilter, probe::digits, probe::digits_fit};
+use super::{lsp, postfilter::OutputFilter, probe::digits, probe::digits_fit, probe::zero_residuals};
 use crate::celp::{post_fec, Native};
 use crate::compare::Tally;
 use std::io::{Read, Write};
@@ -170,6 +170,7 @@ impl Tracer {
             out.line("lag", [lag.integer, lag.frac]);
             out.line("lpc", lpc);
             out.line("innovation", innovation);
+            out.line("zero_residuals", [zero_residuals(lpc)]);
             out.end();
         }
         // the last coefficient of each step of the recursion decides its residual
@@ -179,7 +180,8 @@ impl Tracer {
         let codes = params.halves.iter().flat_map(|h| h.code);
         let met = [
             lsps.contains(&-32768),
-            steps.iter().any(|k| k.unsigned_abs() == 4096),
+            parts.iter().any(|p| 0 < zero_residuals(&p.1)),
+            parts.iter().any(|p| 1 < zero_residuals(&p.1)),
             steps.iter().any(|k| k.unsigned_abs() > 4096),
             floats.iter().any(|x| x.is_subnormal()),
             floats.iter().any(|x| x.abs() > 32768.0),

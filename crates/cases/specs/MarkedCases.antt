@@ -3,12 +3,13 @@
 use mathlib.Core.Path.{_≡_}
 use mathlib.Core.List.{List, [], _∷_, map}
 use mathlib.Core.Bool.{false}
-use Prim.Native.Nat.{ℕ, _^_}
+use Prim.Native.Nat.{ℕ, _^_, _*_}
 use lib.IntN.{ℤ, pos, negℤ}
 use lib.ListN.{length, getD, replicate}
 use lib.Ieee.{Float, fin, binary32, ofInt}
 use Rattle.fixed.specs.Fixed as Fixed
 use Rattle.fixed.specs.Cases as FixedCases
+use Rattle.fixed.specs.declared.Reciprocal.the-variants.{Zero}
 use Rattle.floats.specs.Floats as Floats
 use Rattle.floats.specs.Cases as FloatsCases
 use Rattle.tables.specs.Bare.{bareWords}
@@ -85,10 +86,9 @@ pub record MarkedCases : Type 0 where
       × (ZERO-FRAME .second .«stage2_low» ≡ 0)
       × (ZERO-FRAME .first .«absolute_pitch» ≡ 0)
       × (ZERO-FRAME .second .«absolute_pitch» ≡ 0)
-  -- 14. "Reciprocal of 0 (k = 4096): high half 32,736, exponent 1."
+  -- 14. "Reciprocal of 0 (k = 4096): high half 32,736, exponent 1." It is the case of 0, and its low half is 0
   pub case-14 : (Lsp.residual (pos 4096) ≡ pos 0)
-      × (Fixed.hi (Fixed.normalisedReciprocal (pos 0) .quotient) ≡ pos 32736)
-      × (Fixed.normalisedReciprocal (pos 0) .shift ≡ pos 1)
+      × (Fixed.normalisedReciprocal (pos 0) ≡ Zero (pos (32736 * 65536)) (pos 1))
   -- 15. "Bare set, index 0: ten pulses of 8192 at place 0 leave 16,384." Class 5 has ten pulses
   pub case-15 : Codebook.decode bareWords 0 ≡ record { code = pos 16384 ∷ replicate 79 (pos 0); class = 5 }
   -- "Last byte 3f is accepted, 40 and 80 refused." Of every payload of 20 bytes
@@ -114,7 +114,7 @@ marked-cases =
       case-11 = FloatsCases.case-11;
       case-12 = LspCases.case-12;
       case-13 = BitsCases.case-13;
-      case-14 = (LspCases.residual-4096, FixedCases.case-14, FixedCases.case-14-shift);
+      case-14 = (LspCases.residual-4096, FixedCases.case-14);
       case-15 = CodebookCases.case-15;
       last-bytes = λ payload l. (BitsCases.accepted-3f payload l, BitsCases.refused-40 payload l, BitsCases.refused-80 payload l);
     }

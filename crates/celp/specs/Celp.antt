@@ -47,6 +47,7 @@ silent =
       frac = pos 0;
       lpc = replicate 11 (pos 0);
       innovation = replicate 80 (pos 0);
+      «zero_residuals» = 0;
     }
 
 -- 0 in every part but the number and what it tells, and the state with mark 0

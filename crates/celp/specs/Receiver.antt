@@ -2,7 +2,8 @@
 --
 -- Why two frames are enough. Lag, class and pitch gain need the frame alone. The gain history holds four log gains: one frame replaces it. An innovation is sharpened
 -- by its lag, the LPC numbers, the pitch gain of the subframe before it and the last lag of the half before it. The LPC numbers come from the LSPs of this half and
--- of the half before it, each predicted from its own residual and the three before it: so a half sees four halves back, which are two frames.
+-- of the half before it, each predicted from its own residual and the three before it: so a half sees four halves back, which are two frames. The count of zero residuals
+-- is the LPC numbers'.
 --
 -- What is not claimed. Excitation and samples, which keep some of all that was heard. And nothing follows where a loss is not reported: a receiver that is given
 -- the next frame in the place of a lost one keeps its mark, over a past that is not the sender's.
@@ -52,7 +53,7 @@ module _ (words : List ℤ) (bytes : List ℕ) where
   -- ---- what it may rely on
   pub record MayRely : Type 0 where
     -- A frame that it answers with mark 2 (a refusal answers 0) has the sender's figures: of each subframe the lag and its fraction, the twelve gain figures,
-    -- class among them, the LPC numbers and the shaped innovation.
+    -- class among them, the LPC numbers, the shaped innovation and the count of zero residuals.
     pub figures : (before since : List (List ℕ)) (frame : List ℕ) (s : State) (es : List Event)
         → Call START ((before ++ since) ++ frame ∷ [])
         → Joins before s

@@ -255,6 +255,7 @@ fn silent() -> Subframe
         frac: 0,
         lpc: [0; 11],
         innovation: [0; 80],
+        zero_residuals: 0,
     }
 }
 

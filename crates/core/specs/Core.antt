@@ -114,6 +114,7 @@ traced p gains i g samples = record {
     lpc = p .lpc;
     innovation = i .code;
     «mixed_excitation» = samples;
+    «zero_residuals» = Lsp.zeroResiduals (p .lpc);
   };
   «sharpen_fixed» = clamped (g .«pitch_gain»);
   gains = g .gains;

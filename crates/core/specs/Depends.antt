@@ -27,6 +27,7 @@ figures t = record {
   lpc = t .lpc;
   innovation = t .innovation;
   «mixed_excitation» = [];
+  «zero_residuals» = t .«zero_residuals»;
 }
 
 -- equal in all that the figures of the next half see

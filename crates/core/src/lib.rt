@@ -2,9 +2,11 @@
 ghost use mathlib.Core.Path.{_≡_};
 ghost use mathlib.Core.Bool.{true};
 ghost use Prim.Native.Nat.{_+_, _≤_, _<_};
-ghost use lib.ListN.{length};
+ghost use lib.IntN.{pos};
+ghost use lib.ListN.{length, getD};
 ghost use Rattle.tables.specs.Places.{WORDS};
 ghost use Rattle.tables.specs.Sound.{Sound};
+ghost use Rattle.lsp.specs.Lsp as Lsp;
 ghost use Rattle.pitch.specs.Pitch as Pitch;
 ghost use Rattle.tables.specs.SoundWords.{SoundWords};
 ghost use Rattle.codebook.specs.Codebook as Codebook;
@@ -55,7 +57,8 @@ pub struct ParamsPair {
     pub second: SubframeParams,
 }
 
-// A subframe as it was decoded: the two gains, the gain history before it, its shaped innovation and its excitation among the rest.
+// A subframe as it was decoded: the two gains, the gain history before it, its shaped innovation and its excitation among the rest, and
+// at how many steps of its reflection the residual was 0.
 pub struct SubframeTrace {
     pub lag: Lag,
     pub code_class: usize,
@@ -66,6 +69,7 @@ pub struct SubframeTrace {
     pub lpc: [i16; 11],
     pub innovation: [i16; 80],
     pub mixed_excitation: [i16; 80],
+    pub zero_residuals: u8,
 }
 
 // That, and what the next subframe starts from.
@@ -138,30 +142,19 @@ fn shaped(words: &[i16], innovation: Innovation, lag: Lag, g: InterpolationGains
     innovation
 }
 
-fn sharpen_gains(
-    lpc: [i16; 11],
-    lag: Lag,
-    sharpen_fixed: i16,
-    last_half_lag: i16,
-) -> InterpolationGains
-    ensures { λ r. ⌜ r ≡ Spec.sharpenGains lpc lag «sharpen_fixed» «last_half_lag» ⌝ }
-{
-    let reflection = lsp::reflection_coefficients(lpc);
-    interpolation_gains(reflection[0], sharpen_fixed, lag.integer, last_half_lag)
-}
-
+// By the first reflection coefficient of its LPC numbers.
 fn innovation(
     words: &[i16],
     params: SubframeParams,
+    reflection: i16,
     sharpen_fixed: i16,
     last_half_lag: i16,
 ) -> Innovation
-    requires { ⌜ SoundWords (now words) ⌝ ∗ ⌜ Codebook.digitsFit (now words) (params .index) ≡ true ⌝ ∗ ⌜ Pitch.Sane (params .lag) ⌝ }
+    requires { ⌜ SoundWords (now words) ⌝ ∗ ⌜ Codebook.digitsFit (now words) (params .index) ≡ true ⌝ ∗ ⌜ Pitch.Sane (params .lag) ⌝ ∗ ⌜ reflection ≡ getD (Lsp.reflectionCoefficients (params .lpc)) 0 (pos 0) ⌝ }
     ensures { λ r. ⌜ r ≡ Spec.innovation (now (words .entry)) params «sharpen_fixed» «last_half_lag» ⌝ }
 {
-    let lpc = params.lpc;
     let lag = params.lag;
-    let g = sharpen_gains(lpc, lag, sharpen_fixed, last_half_lag);
+    let g = interpolation_gains(reflection, sharpen_fixed, lag.integer, last_half_lag);
     shaped(words, codebook::decode(words, params.index), lag, g)
 }
 
@@ -198,7 +191,9 @@ fn traced(
     innovation: Innovation,
     g: Decoded,
     samples: [i16; 80],
+    zero_residuals: u8,
 ) -> Subframe
+    requires { ⌜ «zero_residuals» ≡ Lsp.zeroResiduals (params .lpc) ⌝ }
     ensures { λ r. ⌜ r ≡ Spec.traced params gains innovation g samples ⌝ }
 {
     let lag = params.lag;
@@ -216,6 +211,7 @@ fn traced(
             lpc,
             innovation: code,
             mixed_excitation: samples,
+            zero_residuals,
         },
         sharpen_fixed: clamped(g.pitch_gain),
         gains: next,
@@ -237,13 +233,16 @@ fn decode_subframe(
     ensures is { λ r. ⌜ r ≡ Spec.decodeSubframe (now (words .entry)) (now (bytes .entry)) (now (exc .entry)) start params «sharpen_fixed» «last_half_lag» gains ⌝ }
     ensures room { λ r. ⌜ now (exc .exit) ≡ Spec.excitedBy (now (words .entry)) (now (exc .entry)) start (r .trace) ⌝ }
 {
-    let i = innovation(words, params, sharpen_fixed, last_half_lag);
+    let lpc = params.lpc;
+    let reflection = lsp::reflection_coefficients(lpc);
+    let k = reflection.coefficients;
+    let i = innovation(words, params, k[0], sharpen_fixed, last_half_lag);
     let code = i.code;
     let g = gain::decode(bytes, gains, params.gain_index, &code);
     let lag = params.lag;
     excite(words, exc, start, lag, g.pitch_gain, g.code_gain, &code);
     let samples = part(&exc[..], start);
-    traced(params, gains, i, g, samples)
+    traced(params, gains, i, g, samples, reflection.zero_residuals)
 }
 
 fn split_params(previous: [i16; 10], present: [i16; 10], params: HalfParams) -> ParamsPair

@@ -3,7 +3,8 @@ use mathlib.Core.Path.{_≡_, refl}
 use Prim.Native.Nat.{_^_, _-_, _*_}
 use lib.IntN.{pos, negsuc}
 use lib.Count.{leadingZeros}
-use Rattle.fixed.specs.Fixed.{residue, signed, wrap, clamp, acc, fold, sat, trunc32, hi, mul32x16, shift, exp, restoringStep, restoringDivide, sizeReciprocal, normalisedReciprocal}
+use Rattle.fixed.specs.Fixed.{residue, signed, wrap, clamp, acc, fold, sat, trunc32, mul32x16, shift, exp, restoringStep, restoringDivide, sizeReciprocal, signedReciprocal, normalisedReciprocal}
+use Rattle.fixed.specs.declared.Reciprocal.the-variants.{Zero, Ordinary}
 
 -- 9: the accumulator wraps, at the top and below the bottom
 pub case-9 : acc (pos (2 ^ 39)) ≡ negsuc (2 ^ 39 - 1)
@@ -36,18 +37,18 @@ exp-wide : exp (pos (2 ^ 36)) ≡ negsuc 5
 unfolding exp wrap signed residue leadingZeros
 exp-wide = refl
 
--- 14: the reciprocal of zero, in whose steps the accumulator wraps
-pub case-14 : hi (normalisedReciprocal (pos 0) .quotient) ≡ pos 32736
-unfolding normalisedReciprocal sizeReciprocal restoringDivide restoringStep clamp fold shift exp wrap signed residue leadingZeros
+-- 14: the reciprocal of zero, in whose steps the accumulator wraps; and of 2 ^ 40, of which the accumulator holds 0
+pub case-14 : normalisedReciprocal (pos 0) ≡ Zero (pos (32736 * 65536)) (pos 1)
+unfolding normalisedReciprocal signedReciprocal sizeReciprocal restoringDivide restoringStep clamp fold shift exp wrap signed residue leadingZeros
 case-14 = refl
 
-pub case-14-shift : normalisedReciprocal (pos 0) .shift ≡ pos 1
-unfolding normalisedReciprocal exp wrap signed residue leadingZeros
-case-14-shift = refl
+zero-wrapped : normalisedReciprocal (pos (2 ^ 40)) ≡ Zero (pos (32736 * 65536)) (pos 1)
+unfolding normalisedReciprocal signedReciprocal sizeReciprocal restoringDivide restoringStep clamp fold shift exp wrap signed residue leadingZeros
+zero-wrapped = refl
 
 -- of -3, which is normalised by 29 bits: the high half of 3 · 2 ^ 29 is 24576, and 16383 · 2 ^ 15 / 24576 is 21844
-reciprocal-minus-three : normalisedReciprocal (negsuc 2) ≡ record { quotient = negsuc (21844 * 65536 - 1); shift = pos 30 }
-unfolding normalisedReciprocal sizeReciprocal restoringDivide restoringStep clamp fold shift exp wrap signed residue leadingZeros
+reciprocal-minus-three : normalisedReciprocal (negsuc 2) ≡ Ordinary (negsuc (21844 * 65536 - 1)) (pos 30)
+unfolding normalisedReciprocal signedReciprocal sizeReciprocal restoringDivide restoringStep clamp fold shift exp wrap signed residue leadingZeros
 reciprocal-minus-three = refl
 
 -- only `sat` saturates

@@ -7,6 +7,7 @@ use lib.Count
 use lib.Signed.{mag, shrZ, ltZ, leZ}
 use Rattle.sequence.specs.Repeated.{repeated}
 use Rattle.fixed.specs.declared.Reciprocal.{Reciprocal}
+use Rattle.fixed.specs.declared.Reciprocal.the-variants.{Zero, Ordinary}
 
 -- z modulo M: the number from 0 to M - 1 that differs from z by a multiple of M
 unfoldable pub residue : ℕ → ℤ → ℕ
@@ -84,8 +85,26 @@ restoringDivide num den n = repeated (λ k x. restoringStep x den) n num
 unfoldable pub sizeReciprocal : ℤ → ℤ
 sizeReciprocal n = acc (pos (residue 65536 (restoringDivide (pos (16383 * 65536)) (shrZ (sat (pos (natAbs n))) 65536) 15)) *ℤ pos 65536)
 
--- value normalised; the reciprocal of that, with value's sign; and the shift that the reciprocal takes
+-- the same with n's sign
+unfoldable pub signedReciprocal : ℤ → ℤ
+signedReciprocal n = cond (ltZ (hi n) (pos 0)) (acc (negℤ (sizeReciprocal n))) (sizeReciprocal n)
+
+-- value normalised, the reciprocal of that, and the exponent that it takes. Those of an accumulator that holds 0 have a case of their own
 unfoldable pub normalisedReciprocal : ℤ → Reciprocal
 normalisedReciprocal value =
-    let n : ℤ = shift value (exp value) in
-    record { quotient = cond (ltZ (hi n) (pos 0)) (acc (negℤ (sizeReciprocal n))) (sizeReciprocal n); shift = exp value +ℤ pos 1 }
+    let q : ℤ = signedReciprocal (shift value (exp value)) in
+    let e : ℤ = exp value +ℤ pos 1 in
+    cond (eqb (natAbs (acc value)) 0) (Zero q e) (Ordinary q e)
+
+-- the quotient and the exponent of either case; and 1 for the case of 0
+unfoldable pub quotient : Reciprocal → ℤ
+quotient (Zero q e) = q
+quotient (Ordinary q e) = q
+
+unfoldable pub exponent : Reciprocal → ℤ
+exponent (Zero q e) = e
+exponent (Ordinary q e) = e
+
+unfoldable pub zeros : Reciprocal → ℕ
+zeros (Zero q e) = 1
+zeros (Ordinary q e) = 0

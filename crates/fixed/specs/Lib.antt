@@ -15,3 +15,4 @@ pub mod Shifts
 pub mod Products
 pub mod Halves
 pub mod Division
+pub mod Reciprocals

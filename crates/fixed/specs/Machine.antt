@@ -50,6 +50,15 @@ widens t f = widens-to w64 t f
 pub widened : {w : Width} {z : ℤ} → T (leb (hbits w) 63) → SFits w z → toZ w64 (ofZ w64 (toZ w (ofZ w z))) ≡ z
 widened t f = widened-to w64 t f
 
+-- of a test for 0
+pub zero-bits : (z : ℤ) → SFits w64 z → ofZ w64 z ≡ 0 → natAbs z ≡ 0
+zero-bits (pos n) f e = e
+zero-bits (negsuc n) f e = omega (arith, e, f .sfits)
+
+pub bits-zero : (z : ℤ) → natAbs z ≡ 0 → ofZ w64 z ≡ 0
+bits-zero (pos n) e = e
+bits-zero (negsuc n) e = omega (arith, e)
+
 -- ---- the machine
 -- the bits of z, modulo a divisor of 2 ^ 64
 pub bits-residue : (M P : ℕ) (z : ℤ) → P * M ≡ 2 ^ 64 → 0 < M → SFits w64 z → ofZ w64 z % M ≡ residue M z

@@ -219,28 +219,60 @@ fn size_reciprocal(n: i64) -> i64
     acc(reciprocal_bits(size) * 65536)
 }
 
-pub struct Reciprocal {
-    pub quotient: i64,
-    pub shift: i32,
+// The same with its sign.
+fn signed_reciprocal(n: i64) -> i64
+    requires { ⌜ natAbs n ≤ REACH ⌝ }
+    ensures { λ r. ⌜ r ≡ Fixed.signedReciprocal n ⌝ }
+{
+    let q = size_reciprocal(n);
+    if hi(n) < 0 { acc(-q) } else { q }
 }
 
-// 16383 by value's normalised size, with value's sign, and the shift that it takes.
+// A quotient and the exponent that it takes. Those of an accumulator that holds 0 are what the steps leave, and no reciprocal.
+pub enum Reciprocal {
+    Zero(i64, i32),
+    Ordinary(i64, i32),
+}
+
+// 16383 by value's normalised size, with value's sign, and the exponent that it takes.
 pub fn normalised_reciprocal(value: i64) -> Reciprocal
     ensures { λ r. ⌜ r ≡ Fixed.normalisedReciprocal value ⌝ }
 {
     let e = exp(value);
-    let n = shift(value, e);
-    let q = size_reciprocal(n);
-    let h = hi(n);
-    if h < 0 {
-        let p = acc(-q);
-        return Reciprocal {
-            quotient: p,
-            shift: e + 1,
-        };
+    let quotient = signed_reciprocal(shift(value, e));
+    let exponent = e + 1;
+    if acc(value) == 0 {
+        Reciprocal::Zero(quotient, exponent)
+    } else {
+        Reciprocal::Ordinary(quotient, exponent)
     }
-    Reciprocal {
-        quotient: q,
-        shift: e + 1,
+}
+
+// Of either case.
+pub fn quotient(r: Reciprocal) -> i64
+    ensures { λ q. ⌜ q ≡ Fixed.quotient r ⌝ }
+{
+    match r {
+        Reciprocal::Zero(q, _) => q,
+        Reciprocal::Ordinary(q, _) => q,
+    }
+}
+
+pub fn exponent(r: Reciprocal) -> i32
+    ensures { λ e. ⌜ e ≡ Fixed.exponent r ⌝ }
+{
+    match r {
+        Reciprocal::Zero(_, e) => e,
+        Reciprocal::Ordinary(_, e) => e,
+    }
+}
+
+// 1 for the reciprocal of 0, which a caller may count.
+pub fn zeros(r: Reciprocal) -> u8
+    ensures { λ n. ⌜ n ≡ Fixed.zeros r ⌝ }
+{
+    match r {
+        Reciprocal::Zero(_, _) => 1,
+        Reciprocal::Ordinary(_, _) => 0,
     }
 }

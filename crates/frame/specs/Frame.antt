@@ -71,7 +71,7 @@ figures bytes t =
     []
 
 unfoldable pub reported : List ℕ → SubframeTrace → Subframe
-reported bytes t = record { figures = figures bytes t; lag = t .lag .integer; frac = t .lag .frac; lpc = t .lpc; innovation = t .innovation }
+reported bytes t = record { figures = figures bytes t; lag = t .lag .integer; frac = t .lag .frac; lpc = t .lpc; innovation = t .innovation; «zero_residuals» = t .«zero_residuals» }
 
 -- the four subframes' of two halves
 unfoldable pub subframes : List ℕ → Half → Half → List Subframe

@@ -25,6 +25,8 @@ pub struct Subframe {
     pub frac: i16,
     pub lpc: [i16; 11],
     pub innovation: [i16; 80],
+    // At how many of the nine steps to its reflection coefficients the residual was 0.
+    pub zero_residuals: u8,
 }
 
 // A half frame, and the residuals that the next one starts from.
@@ -161,6 +163,7 @@ fn reported(bytes: &[u8], t: SubframeTrace) -> Subframe
         frac: lag.frac,
         lpc,
         innovation,
+        zero_residuals: t.zero_residuals,
     }
 }
 

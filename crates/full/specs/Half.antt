@@ -1,5 +1,6 @@
 -- core.rs with all that it keeps, step by step in its own order: 314 samples of excitation, `sharpen_voiced` and `previous_lag` beside what our `Core` has.
--- That nothing comes of the rest is proved in FullSame. The gain history, which core.rs is lent, is ours to carry.
+-- That nothing comes of the rest is proved in HalfSame. The gain history, which core.rs is lent, is ours to carry. core.rs counts no zero residuals: the trace has our count,
+-- which is one of the LPC numbers alone.
 use mathlib.Core.Bool.{cond, _||_, _&&_}
 use mathlib.Core.List.{List, _++_}
 use Prim.Native.Nat.{ℕ, _+_, _*_}
@@ -76,6 +77,7 @@ finished bytes p sub core gains lpc lag start predicted voiced class code =
         lpc = lpc;
         innovation = code;
         «mixed_excitation» = here;
+        «zero_residuals» = Lsp.zeroResiduals lpc;
       };
     }
 

@@ -8,11 +8,12 @@ use lib.Dec.{ltb, eqb, le→leb, leb→le}
 use lib.IntN.{ℤ, pos, negsuc, negℤ, natAbs, subℕ, sucℤ, _+ℤ_, +ℤ-one}
 use lib.Signed.{mag, _≤ℤ_, leZ-yes}
 use borrow.Author.Tests.{ltb-true, ltb-false, eqb-true, eqb-false}
-use Rattle.fixed.specs.Fixed.{acc, fold, mul, shift, exp, normalisedReciprocal}
+use Rattle.fixed.specs.Fixed.{acc, fold, mul, shift, exp}
 use Rattle.fixed.specs.Abs.{abs-neg}
 use Rattle.fixed.specs.Integers.{sub-is, sub-above, sub-below}
 use Rattle.fixed.specs.Wrap.{REACH, wrap-id, acc-fits}
 use Rattle.fixed.specs.Sums.{fold-fits}
+use Rattle.fixed.specs.Reciprocals.{exponent-is}
 use Rattle.fixed.specs.Shifts.{shift-up, exp-at-most, exp-at-least, exp-of-zero}
 use Rattle.lsp.specs.Lsp.{residual, exponent, scale}
 
@@ -64,8 +65,8 @@ module _ (kv : ℤ) (h : natAbs kv ≤ 32768) where
 
   -- the theorem: below 4096 the residual is 64 · 8191 or more, at 4096 it is 0, and beyond it is -64 · 8193 or less, and not below -64 · (2 ^ 30 - 2 ^ 24)
   pub exponent-range : Small (exponent kv)
-  unfolding exponent normalisedReciprocal
-  exponent-range = go (ltb (natAbs kv) 4096) (eqb (natAbs kv) 4096) refl refl
+  unfolding exponent
+  exponent-range = rw (exponent-is (residual kv)) (go (ltb (natAbs kv) 4096) (eqb (natAbs kv) 4096) refl refl)
     where
       go : (t u : Bool) → ltb (natAbs kv) 4096 ≡ t → eqb (natAbs kv) 4096 ≡ u → Small (exp (residual kv) +ℤ pos 1)
       go true u t e =

@@ -2,3 +2,4 @@
 pub mod Lsp
 pub mod Cases
 pub mod Exponent
+pub mod Zeros

@@ -8,9 +8,12 @@ use lib.IntN.{ℤ, pos, negsuc, negℤ, natAbs, _+ℤ_, _*ℤ_}
 use lib.Signed.{shrZ}
 use Rattle.sequence.specs.Table.{table}
 use Rattle.sequence.specs.Repeated.{repeated}
+use Rattle.sequence.specs.Lists.{tally}
 use Rattle.fixed.specs.Fixed.{wrap, acc, fold, sat, trunc32, low, hi, mul, mul32x16, shift, normalisedReciprocal}
+use Rattle.fixed.specs.Fixed as Fixed
 use Rattle.tables.specs.Places.{COS, COS-SLOPE}
 use Rattle.lsp.specs.declared.Pair.{Pair}
+use Rattle.lsp.specs.declared.Reflection.{Reflection}
 
 abbrev pub at : List ℤ → ℕ → ℤ
 at l i = getD l i (pos 0)
@@ -116,10 +119,10 @@ residual kv = fold (pos 1073741824) (negℤ (shift (acc (mul kv kv)) (pos 5)))
 
 -- its reciprocal: the quotient, halved, and the exponent, which is read as a signed field of 5 bits
 unfoldable pub inverse : ℤ → ℤ
-inverse kv = hi (shift (normalisedReciprocal (residual kv) .quotient) (negsuc 0))
+inverse kv = hi (shift (Fixed.quotient (normalisedReciprocal (residual kv))) (negsuc 0))
 
 unfoldable pub exponent : ℤ → ℤ
-exponent kv = normalisedReciprocal (residual kv) .shift
+exponent kv = Fixed.exponent (normalisedReciprocal (residual kv))
 
 unfoldable pub scale : ℤ → ℤ
 scale kv = wrap 5 (exponent kv)
@@ -146,3 +149,15 @@ tail lpc = table (λ n. at lpc (n + 1)) 10
 -- nine steps, at places 9 to 1
 unfoldable pub reflectionCoefficients : List ℤ → List ℤ
 reflectionCoefficients lpc = repeated (λ n. step (9 - n)) 9 (tail lpc)
+
+-- 1 for a coefficient whose residual is 0, else 0
+unfoldable pub zeroResidual : ℤ → ℕ
+zeroResidual kv = cond (eqb (natAbs (residual kv)) 0) 1 0
+
+-- at how many of the nine steps the residual is 0: that of step n, from 0 to 8, is of the coefficient at place 9 - n, as the steps before it left it
+unfoldable pub zeroResiduals : List ℤ → ℕ
+zeroResiduals lpc = tally (λ n. zeroResidual (at (repeated (λ k. step (9 - k)) n (tail lpc)) (9 - n))) (table (λ n. n) 9)
+
+-- both
+unfoldable pub reflection : List ℤ → Reflection
+reflection lpc = record { coefficients = reflectionCoefficients lpc; «zero_residuals» = zeroResiduals lpc }

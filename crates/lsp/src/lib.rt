@@ -8,15 +8,18 @@ ghost use Rattle.tables.specs.Places.{WORDS};
 ghost use Rattle.fixed.specs.Fixed as Fixed;
 ghost use Rattle.lsp.specs.Lsp as Lsp;
 use fixed::acc;
+use fixed::exponent;
 use fixed::fold;
 use fixed::hi;
 use fixed::low;
 use fixed::mul;
 use fixed::mul32x16;
 use fixed::normalised_reciprocal;
+use fixed::quotient;
 use fixed::sat;
 use fixed::shift;
 use fixed::trunc32;
+use fixed::zeros;
 
 // Where an LSF stands in the cosine table, in 256ths of an entry: 20861 in Q15, doubled, is 4/pi.
 fn position(lsf: i16) -> usize
@@ -283,16 +286,18 @@ fn update_all(k: &mut [i16], top: usize, kv: i16, inverse: i16, scale: i32)
     }
 }
 
-// A step: the coefficient at top is peeled off, and the numbers before it are divided by its residual.
+// A step: the coefficient at top is peeled off, and the numbers before it are divided by its residual. 1 where that is 0.
 // The Rust reads the exponent as a signed 5-bit field, which it is already.
-fn step(k: &mut [i16], top: usize)
+fn step(k: &mut [i16], top: usize) -> u8
     requires { ⌜ (length (now k) ≡ 10) × (top < 10) ⌝ }
-    ensures { λ _. ⌜ now (k .exit) ≡ Lsp.step top (now (k .entry)) ⌝ }
+    ensures numbers { λ _. ⌜ now (k .exit) ≡ Lsp.step top (now (k .entry)) ⌝ }
+    ensures zero { λ r. ⌜ r ≡ Lsp.zeroResidual (getD (now (k .entry)) top (pos 0)) ⌝ }
 {
     let kv = k[top];
     let r = normalised_reciprocal(residual(kv));
-    let inverse = hi(shift(r.quotient, -1));
-    update_all(k, top, kv, inverse, r.shift);
+    let inverse = hi(shift(quotient(r), -1));
+    update_all(k, top, kv, inverse, exponent(r));
+    zeros(r)
 }
 
 // The numbers after the first, which is 1.
@@ -306,13 +311,23 @@ fn tail(lpc: [i16; 11]) -> [i16; 10]
     k
 }
 
+// Ten reflection coefficients, and at how many of the nine steps to them the residual was 0.
+pub struct Reflection {
+    pub coefficients: [i16; 10],
+    pub zero_residuals: u8,
+}
+
 // LPC numbers to reflection coefficients, by the Levinson recursion backwards.
-pub fn reflection_coefficients(lpc: [i16; 11]) -> [i16; 10]
-    ensures { λ r. ⌜ r ≡ Lsp.reflectionCoefficients lpc ⌝ }
+pub fn reflection_coefficients(lpc: [i16; 11]) -> Reflection
+    ensures { λ r. ⌜ r ≡ Lsp.reflection lpc ⌝ }
 {
     let mut k = tail(lpc);
+    let mut zeros = 0u8;
     for n in 0..9 {
-        step(&mut k[..], 9 - n);
+        zeros += step(&mut k[..], 9 - n);
     }
-    k
+    Reflection {
+        coefficients: k,
+        zero_residuals: zeros,
+    }
 }

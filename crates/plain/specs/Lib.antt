@@ -1,6 +1,7 @@
 pub mod Sums
 pub mod Normal
 pub mod Lsp
+pub mod Zeros
 pub mod Pitch
 pub mod Postfilter
 pub mod Synth

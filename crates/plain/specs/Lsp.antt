@@ -13,7 +13,9 @@ use lib.IntN.{ℤ, pos, negsuc, negℤ, natAbs, _+ℤ_, _-ℤ_, _*ℤ_}
 use lib.Signed.{mag, shrZ, ltZ}
 use Rattle.sequence.specs.Table.{table, length-table, getD-table, table-same}
 use Rattle.sequence.specs.Repeated.{repeated, repeated-keeps}
-use Rattle.fixed.specs.Fixed.{residue, signed, wrap, clamp, acc, fold, sat, trunc32, low, hi, mul, mul32x16, shift, exp, restoringStep, restoringDivide, sizeReciprocal, normalisedReciprocal}
+use Rattle.fixed.specs.Fixed.{residue, signed, wrap, clamp, acc, fold, sat, trunc32, low, hi, mul, mul32x16, shift, exp, restoringStep, restoringDivide, sizeReciprocal, signedReciprocal, normalisedReciprocal, quotient}
+use Rattle.fixed.specs.Fixed as Fixed
+use Rattle.fixed.specs.Reciprocals.{quotient-is}
 use Rattle.fixed.specs.Abs.{abs-add, abs-neg, abs-mul-le, abs-shr, mag≤abs}
 use Rattle.fixed.specs.Products.{abs-mul32x16}
 use Rattle.fixed.specs.Bounds.{abs-low, abs-trunc32, abs-mul-by}
@@ -198,9 +200,9 @@ cosine-plain words lsf w =
     ap (λ (z : ℤ). hi z) (fold-fits (at words (COS + e) *ℤ pos 65536) (mul (pos (r * 8)) (at words (COS-SLOPE + e))) (omega arith))
 
 -- ---- a reflection step. The residual is plain by `residual-is` (Exponent); so are the inverse, by the quotient that it is given, and the difference
-pub inverse-plain : (kv : ℤ) → inverse kv ≡ hi (shrZ (normalisedReciprocal (residual kv) .quotient) 2)
-unfolding inverse normalisedReciprocal sizeReciprocal
-inverse-plain kv = ap (λ (z : ℤ). hi z) (shift-down-plain (normalisedReciprocal (residual kv) .quotient) 0 (omega arith) (go (ltZ (hi n) (pos 0))))
+pub inverse-plain : (kv : ℤ) → inverse kv ≡ hi (shrZ (quotient (normalisedReciprocal (residual kv))) 2)
+unfolding inverse signedReciprocal sizeReciprocal
+inverse-plain kv = ap (λ (z : ℤ). hi z) (shift-down-plain (quotient (normalisedReciprocal (residual kv))) 0 (omega arith) (rw (quotient-is (residual kv)) (go (ltZ (hi n) (pos 0)))))
   where
     n : ℤ
     n = shift (residual kv) (exp (residual kv))
@@ -240,5 +242,5 @@ module _ (kv x y : ℤ) (p : Short kv) (q : Short x) (r : Short y) where
 
 -- it does wrap: by a coefficient of 4095 the scale is 13, and 536,870,911 · 2 ^ 13 is past 2 ^ 39
 scale-wraps : shift (mul32x16 (difference (pos 4095) (pos 32767) (negsuc 32767)) (inverse (pos 4095))) (scale (pos 4095)) ≡ negsuc 8191
-unfolding difference inverse scale exponent residual normalisedReciprocal sizeReciprocal restoringDivide restoringStep repeated exp clamp fold mul mul32x16 shift wrap signed residue
+unfolding difference inverse scale exponent residual quotient Fixed.exponent normalisedReciprocal signedReciprocal sizeReciprocal restoringDivide restoringStep repeated exp clamp fold mul mul32x16 shift wrap signed residue
 scale-wraps = refl

@@ -12,7 +12,9 @@ use lib.IntN.{ℤ, pos, negsuc, negℤ, subℕ, natAbs, _+ℤ_, _*ℤ_}
 use lib.Signed.{mag, shrZ, ltZ}
 use borrow.Author.Tests.{ltb-true, ltb-false}
 use Rattle.sequence.specs.Repeated.{repeated}
-use Rattle.fixed.specs.Fixed.{residue, signed, wrap, clamp, acc, fold, sat, hi, shift, exp, restoringStep, restoringDivide, sizeReciprocal, normalisedReciprocal}
+use Rattle.fixed.specs.Fixed.{residue, signed, wrap, clamp, acc, fold, sat, hi, shift, exp, restoringStep, restoringDivide, sizeReciprocal, signedReciprocal, normalisedReciprocal}
+use Rattle.fixed.specs.declared.Reciprocal.the-variants.{Ordinary}
+use Rattle.fixed.specs.Reciprocals.{zero-exactly}
 use Rattle.fixed.specs.Integers.{sub-is, sub-above, sub-below}
 use Rattle.fixed.specs.Abs.{abs-neg, mag≤abs, mag-shr-is}
 use Rattle.fixed.specs.Wrap.{REACH, wrap-id, acc-fits}
@@ -127,16 +129,19 @@ reciprocal-is n h =
     ∙ acc-fits (pos (HALF-NUMERATOR / m * 65536)) (omega arith)
 
 -- ---- the theorem: of an accumulator but 0, no accumulator on the way to its reciprocal wraps
-pub reciprocal-plain : (v : ℤ) → mag v < REACH → (v ≡ pos 0 → ⊥)
-    → normalisedReciprocal v ≡ record { quotient = cond (ltZ (hi (shift v (exp v))) (pos 0)) (negℤ (plainReciprocal (shift v (exp v)))) (plainReciprocal (shift v (exp v))); shift = exp v +ℤ pos 1 }
-unfolding normalisedReciprocal
-reciprocal-plain v h z =
-    let n : ℤ = shift v (exp v) in
-    let d = normalises v h z in
+signed-plain : (n : ℤ) → Normalised n → signedReciprocal n ≡ cond (ltZ (hi n) (pos 0)) (negℤ (plainReciprocal n)) (plainReciprocal n)
+unfolding signedReciprocal
+signed-plain n d =
     let r = divisor-range n d in
     let q : HALF-NUMERATOR / divisor n < 32768 = div-lt-iff-lt-mul {k = divisor n} (omega arith) .1 (omega arith) in
     let f : acc (negℤ (plainReciprocal n)) ≡ negℤ (plainReciprocal n) = acc-fits (negℤ (plainReciprocal n)) (omega (arith, abs-neg (plainReciprocal n))) in
     rw (reciprocal-is n d, f)
+
+pub reciprocal-plain : (v : ℤ) → mag v < REACH → (v ≡ pos 0 → ⊥)
+    → normalisedReciprocal v ≡ Ordinary (cond (ltZ (hi (shift v (exp v))) (pos 0)) (negℤ (plainReciprocal (shift v (exp v)))) (plainReciprocal (shift v (exp v)))) (exp v +ℤ pos 1)
+reciprocal-plain v h z =
+    zero-exactly v .1 (λ e. z (sym (wrap-id 39 v h) ∙ e))
+    ∙ ap (λ (q : ℤ). Ordinary q (exp v +ℤ pos 1)) (signed-plain (shift v (exp v)) (normalises v h z))
 
 -- of 0 it wraps: the tenth of the fifteen steps passes 2 ^ 39 and reads as negative, and from there on no bit of the quotient comes in
 zero-wraps : (restoringDivide (pos (16383 * 65536)) (pos 0) 9 ≡ pos 549722259967) × (restoringDivide (pos (16383 * 65536)) (pos 0) 10 ≡ negsuc 67107840)

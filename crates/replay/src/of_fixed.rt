@@ -10,6 +10,10 @@ fn wide32(x: i32) -> i64 {
     x as i64
 }
 
+fn wide8(x: u8) -> i64 {
+    x as i64
+}
+
 // An amount of 32 bits.
 fn amount(x: i64) -> i32 {
     fixed::trunc32(x) as i32
@@ -41,7 +45,13 @@ pub fn answer(n: [i64; 128]) {
         10 => one(divided(v, y, fixed::magnitude(n[4]))),
         _ => {
             let r = fixed::normalised_reciprocal(v);
-            say(&[r.quotient, wide32(r.shift)]);
+            say(
+                &[
+                    fixed::quotient(r),
+                    wide32(fixed::exponent(r)),
+                    wide8(fixed::zeros(r)),
+                ],
+            );
         }
     }
 }

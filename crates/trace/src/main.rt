@@ -67,7 +67,10 @@ fn subframe_part(s: Subframe, digest: bool) {
     let b = numbers(&mut out, a, b"lag", &[s.lag, s.frac]);
     let c = numbers(&mut out, b, b"lpc", &lpc);
     let d = numbers(&mut out, c, b"innovation", &innovation);
-    part(&out, d, digest);
+    let e = text(&mut out, d, b"zero_residuals");
+    let f = number(&mut out, e, wide(s.zero_residuals));
+    let g = end(&mut out, f);
+    part(&out, g, digest);
 }
 
 fn numbers_part(name: &[u8], w: &[i16], digest: bool) {

@@ -1,13 +1,16 @@
 -- Each part is what its call gave, of those before it.
 use borrow.Author.Needs.{needs}
-use mathlib.Core.Path.{_≡_, _∙_}
+use mathlib.Core.Path.{_≡_, _∙_, ap}
 use mathlib.Core.List.{List}
 use Prim.Native.Nat.{ℕ}
-use lib.IntN.{ℤ}
+use lib.IntN.{ℤ, pos}
+use lib.ListN.{getD}
 use lib.Ieee.{Float}
 use mir.Syntax.{w16}
 use mir.ValLaws.{toZ-ofZ}
 use Rattle.fixed.specs.Machine.{back}
+use Rattle.lsp.specs.declared.Reflection.{Reflection}
+use Rattle.lsp.specs.Lsp as Lsp
 use Rattle.codebook.specs.declared.Innovation.{Innovation}
 use Rattle.gain.specs.declared.Decoded.{Decoded}
 use Rattle.gain.specs.Gain as Gain
@@ -28,20 +31,37 @@ module _ (words : List ℤ) (bytes : List ℕ) (exc : List ℤ) (start : ℕ) (p
       unfolding Spec.traced
       roomed t-is = rw t-is e-is
 
+reflection-coefficients-requires : tie.Need-reflection-coefficients-requires
+reflection-coefficients-requires c κs = search needs
+
+array-copy-out-innovation : tie.Need-array-copy-out-innovation
+array-copy-out-innovation c = search needs
+
+-- the coefficients and the count, of the LPC numbers
+reflected : (c : tie.After-reflection-coefficients) → c .reflection-coefficients .result ≡ Lsp.reflection (c .before .before .before .args .params .lpc)
+reflected c = c .reflection-coefficients .ensures
+
 innovation-requires : tie.Need-innovation-requires
-innovation-requires c κs = search needs
+unfolding Lsp.reflection
+innovation-requires c κs =
+    let k = c .before .before in
+    let u = k .before .before .before .pre in
+    (u .0 .sound, (u .0 .digits, (u .0 .lag, back w16 _ (c .innovation-arg .given) ∙ ap (λ (r : Reflection). getD (r .coefficients) 0 (pos 0)) (reflected k))))
 
 decode-requires : tie.Need-decode-requires
 decode-requires c κs = search needs
 
 excite-requires : tie.Need-excite-requires
-excite-requires c κs = search needs
+excite-requires c κs =
+    let u = c .before .before .before .before .before .before .before .before .before .before .before .before .before .before .pre in
+    (u .0 .sound .words-long, u .1 .0, u .1 .1, u .0 .lag)
 
 part-requires : tie.Need-part-requires
-part-requires c κs = search needs
+part-requires c κs = let l = c .before .before .before .before .before .before .before .before .before .before .before .before .before .before .before .before .before .pre .1 .1 in search needs
 
 traced-requires : tie.Need-traced-requires
-traced-requires c κs = search needs
+unfolding Lsp.reflection
+traced-requires c κs = ap (λ (r : Reflection). r .«zero_residuals») (reflected (c .before .before .before .before .before .before .before .before .before .before .before .before .before .before .before))
 
 same-length : tie.Need-same-length
 same-length c = search needs
@@ -52,7 +72,7 @@ returns c =
     let q = x .before .before in
     let d = q .before .before .before .before in
     let k = d .before .before .before in
-    let s = k .before .before in
+    let s = k .before .before .before .before .before .before in
     let p = s .args .params in
     let words = s .args .words .now in
     let i = k .innovation .result in
@@ -67,6 +87,8 @@ pub decode-subframe-spec : {M : Type 1} → statement M
 decode-subframe-spec =
     tie.close
     (tie.spec
+    reflection-coefficients-requires
+    array-copy-out-innovation
     innovation-requires
     decode-requires
     excite-requires

@@ -1,4 +1,4 @@
--- The numbers as they are, and the gain that is left as it was clamped.
+-- The numbers as they are, the gain that is left as it was clamped, and the count as the premise says.
 use borrow.Author.Needs.{needs}
 use mathlib.Core.Path.{_≡_, _∙_}
 use mir.Syntax.{w16}
@@ -19,7 +19,7 @@ returns c =
     let g = s .args .g in
     let p = back w16 (g .«pitch_gain») (a .struct-told .given .0 .1) in
     let k : toZ w16 (ofZ w16 (c .clamped .result)) ≡ Spec.clamped (g .«pitch_gain») = back w16 (c .clamped .result) (c .clamped .ok) ∙ simp p at (c .clamped .ensures) in
-    simp (p, back w16 (g .«code_gain») (a .struct-told .given .1 .0 .1), k)
+    simp (s .pre, p, back w16 (g .«code_gain») (a .struct-told .given .1 .0 .1), k)
 
 pub traced-spec : {M : Type 1} → statement M
 traced-spec = tie.close (tie.spec clamped-requires returns)

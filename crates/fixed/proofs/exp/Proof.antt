@@ -5,28 +5,20 @@ use mathlib.Core.Bool.{false}
 use mathlib.Core.Path.{_≡_, _∙_, ap, sym}
 use lib.Dec.{eqb}
 use lib.Count.{leadingZeros, leading-le, leading-length, leading-unique}
-use lib.IntN.{ℤ, pos, negsuc, natAbs, _-ℤ_}
+use lib.IntN.{ℤ, pos, natAbs, _-ℤ_}
 use lib.Signed.{mag}
 use borrow.Author.Tests.{eq-eqb, ne-eqb}
 use Prim.Native.Nat.{ℕ, _<_, _+_}
 use mir.Syntax.{w64, w32}
-use mir.Val.{SFits, toZ, ofZ}
+use mir.Val.{SFits, toZ}
 use mir.ValLaws.{toZ-ofZ, toZ-pos}
 use Rattle.fixed.specs.Fixed as Fixed
 use Rattle.fixed.specs.Integers.{sub-same}
 use Rattle.fixed.specs.Abs.{abs-sub}
-use Rattle.fixed.specs.Machine.{back, sfits-abs}
+use Rattle.fixed.specs.Machine.{back, sfits-abs, zero-bits, bits-zero}
 use Rattle.fixed.specs.Shifts.{mag-acc}
 use Rattle.fixed.proofs.exp.Statement.{statement}
 use Rattle.fixed.proofs.exp.Tie as tie
-
-zero-bits : (z : ℤ) → SFits w64 z → ofZ w64 z ≡ 0 → natAbs z ≡ 0
-zero-bits (pos n) f e = e
-zero-bits (negsuc n) f e = omega (arith, e, f .sfits)
-
-bits-zero : (z : ℤ) → natAbs z ≡ 0 → ofZ w64 z ≡ 0
-bits-zero (pos n) e = e
-bits-zero (negsuc n) e = omega (arith, e)
 
 -- of 64 digits 24 more are 0 than of 40
 leading-40 : (n : ℕ) → n < 1099511627776 → leadingZeros 64 n ≡ leadingZeros 40 n + 24

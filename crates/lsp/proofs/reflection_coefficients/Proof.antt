@@ -1,13 +1,14 @@
--- Each turn is the definition's step.
+-- Each turn is the definition's step, and one term more of the count.
 use borrow.Author.Needs.{needs}
 use native.Mathlib.Omega.{arith}
 use mathlib.Core.List.{List}
-use mathlib.Core.Path.{_≡_, refl, _∙_, ap}
-use Prim.Native.Nat.{ℕ, _-_, _≤_}
-use lib.IntN.{ℤ}
-use lib.ListN.{length}
+use mathlib.Core.Path.{_≡_, refl, sym, _∙_, ap}
+use Prim.Native.Nat.{ℕ, _+_, _-_, _≤_}
+use lib.IntN.{ℤ, pos}
+use lib.ListN.{length, getD}
 use Rattle.sequence.specs.Repeated.{repeated, repeated-again, repeated-end}
 use Rattle.lsp.specs.Lsp as Lsp
+use Rattle.lsp.specs.Zeros.{zerosOf, zeros-none, zeros-more, zeros-end, zeros-le}
 use Rattle.lsp.proofs.reflection_coefficients.Statement.{statement}
 use Rattle.lsp.proofs.reflection_coefficients.Tie as tie
 
@@ -15,17 +16,17 @@ abbrev turn : ℕ → List ℤ → List ℤ
 turn n = Lsp.step (9 - n)
 
 abbrev Inv-loop : tie.InvT-loop
-Inv-loop k₀ n₀ k n = (n ≤ 9) × (length k ≡ 10) × (k ≡ repeated turn n k₀)
+Inv-loop k₀ zeros₀ n₀ k zeros n = (n ≤ 9) × (length k ≡ 10) × (k ≡ repeated turn n k₀) × (zeros ≡ zerosOf k₀ n)
 
 abbrev μ-loop : tie.MeasureT-loop
-μ-loop k₀ n₀ k n = 9 - n
+μ-loop k₀ zeros₀ n₀ k zeros n = 9 - n
 
 tail-requires : tie.Need-tail-requires Inv-loop μ-loop
 tail-requires c κs = search needs
 
 loop-holds : tie.Need-loop-holds Inv-loop μ-loop
 unfolding repeated
-loop-holds c = (omega arith, search needs, refl)
+loop-holds c = (omega arith, search needs, refl, sym (zeros-none (c .tail .result)))
 
 slice-aggregate-step : tie.Need-slice-aggregate-step Inv-loop μ-loop
 slice-aggregate-step c = search needs
@@ -36,6 +37,17 @@ sub-step c = omega arith
 step-requires : tie.Need-step-requires Inv-loop μ-loop
 step-requires c κs = search needs
 
+-- the count after a turn
+counted : (c : tie.After-k2 Inv-loop μ-loop) → c .before .before .before .before .loop .zeros + c .before .step .result ≡ zerosOf (c .before .before .before .before .before .tail .result) (c .before .before .before .before .loop .n + 1)
+counted c =
+    let l = c .before .before .before .before in
+    let n = l .loop .n in
+    let t : c .before .step .result ≡ Lsp.zeroResidual (getD (repeated turn n (l .before .tail .result)) (9 - n) (pos 0)) = c .before .step .ensures .1 ∙ ap (λ (k : List ℤ). Lsp.zeroResidual (getD k (9 - n) (pos 0))) (l .loop .inv .2) in
+    omega (arith, l .loop .inv .3, t, zeros-more (l .before .tail .result) n)
+
+add-zeros : tie.Need-add-zeros Inv-loop μ-loop
+add-zeros c = let l = c .before .before .before .before in omega (arith, counted c, zeros-le (l .before .tail .result) (l .loop .n + 1))
+
 add-n : tie.Need-add-n Inv-loop μ-loop
 add-n c = omega arith
 
@@ -45,13 +57,16 @@ loop-less c = omega arith
 loop-again : tie.Need-loop-again Inv-loop μ-loop
 loop-again c =
     let l = c .before .before .before .before in
-    (omega arith, search needs, repeated-again turn (l .loop .n) _ (l .loop .inv .2) (c .before .step .ensures))
+    (omega arith, search needs, repeated-again turn (l .loop .n) _ (l .loop .inv .2) (c .before .step .ensures .0), counted c)
 
 returns : tie.Need-returns Inv-loop μ-loop
-unfolding Lsp.reflectionCoefficients
+unfolding Lsp.reflection Lsp.reflectionCoefficients
 returns c =
     let l = c .before in
-    repeated-end turn _ (l .loop .inv .0) (omega arith) (l .loop .inv .2) ∙ ap (repeated turn 9) (l .before .tail .ensures)
+    let t = l .before .tail .ensures in
+    let k = repeated-end turn _ (l .loop .inv .0) (omega arith) (l .loop .inv .2) ∙ ap (repeated turn 9) t in
+    let z = zeros-end (l .before .before .args .lpc) (l .loop .inv .0) (omega arith) t (l .loop .inv .3) in
+    λ i. record { coefficients = k i; «zero_residuals» = z i }
 
 pub reflection-coefficients-spec : {M : Type 1} → statement M
 reflection-coefficients-spec =
@@ -64,6 +79,7 @@ reflection-coefficients-spec =
     slice-aggregate-step
     sub-step
     step-requires
+    add-zeros
     add-n
     loop-less
     loop-again

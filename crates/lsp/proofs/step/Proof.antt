@@ -1,18 +1,26 @@
--- Each call's result as it is defined; the exponent is its own 5-bit field, by `scale-is`.
+-- Each call's result as it is defined; the exponent is its own 5-bit field, by `scale-is`, and the residual, which is an accumulator, decides the reciprocal's case.
 use borrow.Author.Needs.{needs}
+use mathlib.Core.Bool.{cond}
 use mathlib.Core.Path.{_≡_, _∙_, ap, sym}
 use Prim.Native.Nat.{_≤_}
+use lib.Dec.{eqb}
 use lib.IntN.{ℤ, pos, negsuc, natAbs}
 use lib.ListN.{getD}
 use mir.Syntax.{w16, w32, w64}
 use mir.Val.{toZ, ofZ}
 use Rattle.fixed.specs.Fixed as Fixed
-use Rattle.fixed.specs.declared.Reciprocal.{Reciprocal}
 use Rattle.fixed.specs.Machine.{back, abs-sfits}
+use Rattle.fixed.specs.Reciprocals.{zeros-is}
+use Rattle.fixed.specs.Wrap.{wrap-wrap}
 use Rattle.lsp.specs.Lsp as Lsp
 use Rattle.lsp.specs.Exponent.{scale-is}
 use Rattle.lsp.proofs.step.Statement.{statement}
 use Rattle.lsp.proofs.step.Tie as tie
+
+-- the case of 0 is counted where the residual is 0
+counted : (kv : ℤ) → Fixed.zeros (Fixed.normalisedReciprocal (Lsp.residual kv)) ≡ Lsp.zeroResidual kv
+unfolding Lsp.zeroResidual Lsp.residual Fixed.fold
+counted kv = zeros-is (Lsp.residual kv) ∙ ap (λ (z : ℤ). cond (eqb (natAbs z) 0) 1 0) (wrap-wrap 40 _)
 
 mul-kv : tie.Need-mul-kv
 mul-kv c = search needs
@@ -26,19 +34,28 @@ residual-requires c κs = search needs
 normalised-reciprocal-requires : tie.Need-normalised-reciprocal-requires
 normalised-reciprocal-requires c κs = search needs
 
+quotient-requires : tie.Need-quotient-requires
+quotient-requires c κs = search needs
+
 shift-requires : tie.Need-shift-requires
 shift-requires c κs = search needs
 
 hi-requires : tie.Need-hi-requires
 hi-requires c κs = search needs
 
+exponent-requires : tie.Need-exponent-requires
+exponent-requires c κs = search needs
+
 update-all-requires : tie.Need-update-all-requires
 update-all-requires c κs = search needs
 
+zeros-requires : tie.Need-zeros-requires
+zeros-requires c κs = search needs
+
 -- the coefficient that is peeled off, and the reciprocal of its residual
-module _ (c : tie.After-struct-told) where
+module _ (c : tie.After-normalised-reciprocal) where
   abbrev r : tie.After-residual
-  r = c .before .before
+  r = c .before
 
   abbrev s : tie.Start
   s = r .before .before
@@ -46,34 +63,31 @@ module _ (c : tie.After-struct-told) where
   abbrev kv : ℤ
   kv = getD (s .args .k .now) (s .args .top) (pos 0)
 
-  abbrev got : Reciprocal
-  got = c .before .normalised-reciprocal .result
-
   kv-back : toZ w16 (ofZ w16 kv) ≡ kv
   kv-back = back w16 kv (r .before .kv .given)
 
   kv-le : natAbs kv ≤ 32768
   kv-le = abs-sfits w16 kv (record { sfits = r .before .kv .given })
 
-  got-is : got ≡ Fixed.normalisedReciprocal (Lsp.residual kv)
+  got-is : c .normalised-reciprocal .result ≡ Fixed.normalisedReciprocal (Lsp.residual kv)
   got-is =
-      simp (back w64 (r .residual .result) (r .residual .ok)) at (c .before .normalised-reciprocal .ensures)
+      simp (back w64 (r .residual .result) (r .residual .ok)) at (c .normalised-reciprocal .ensures)
       ∙ ap Fixed.normalisedReciprocal (simp kv-back at (r .residual .ensures))
 
-  quotient-back : toZ w64 (ofZ w64 (got .quotient)) ≡ got .quotient
-  quotient-back = back w64 (got .quotient) (c .struct-told .given .0 .1)
-
-  shift-is : toZ w32 (ofZ w32 (got .shift)) ≡ Lsp.scale kv
-  unfolding Lsp.exponent
-  shift-is = back w32 (got .shift) (c .struct-told .given .1 .0 .1) ∙ ap (λ (x : Reciprocal). x .shift) got-is ∙ sym (scale-is kv kv-le)
-
-inverse-is : (c : tie.After-hi) → toZ w16 (ofZ w16 (c .hi .result)) ≡ Lsp.inverse (kv (c .before .before))
+inverse-is : (c : tie.After-hi) → toZ w16 (ofZ w16 (c .hi .result)) ≡ Lsp.inverse (kv (c .before .before .before))
 unfolding Lsp.inverse
 inverse-is c =
-    let b = c .before .before in
+    let q = c .before .before in
     back w16 (c .hi .result) (c .hi .ok)
     ∙ simp (back w64 (c .before .shift .result) (c .before .shift .ok)) at (c .hi .ensures)
-    ∙ ap (λ (z : ℤ). Fixed.hi z) (simp (quotient-back b) at (c .before .shift .ensures) ∙ ap (λ (x : Reciprocal). Fixed.shift (x .quotient) (negsuc 0)) (got-is b))
+    ∙ ap (λ (z : ℤ). Fixed.hi z) (simp (back w64 (q .quotient .result) (q .quotient .ok)) at (c .before .shift .ensures)
+    ∙ ap (λ (z : ℤ). Fixed.shift z (negsuc 0)) (q .quotient .ensures ∙ ap Fixed.quotient (got-is (q .before))))
+
+scale-got : (c : tie.After-exponent) → toZ w32 (ofZ w32 (c .exponent .result)) ≡ Lsp.scale (kv (c .before .before .before .before .before))
+unfolding Lsp.exponent
+scale-got c =
+    let b = c .before .before .before .before .before in
+    back w32 (c .exponent .result) (c .exponent .ok) ∙ c .exponent .ensures ∙ ap Fixed.exponent (got-is b) ∙ sym (scale-is (kv b) (kv-le b))
 
 same-length : tie.Need-same-length
 same-length c = search needs
@@ -81,9 +95,10 @@ same-length c = search needs
 returns : tie.Need-returns
 unfolding Lsp.step
 returns c =
-    let h = c .before .before .before .before in
-    let b = h .before .before in
-    simp (kv-back b, inverse-is h, shift-is b) at (c .before .update-all .ensures)
+    let e = c .before .before .before in
+    let h = e .before .before in
+    let b = h .before .before .before in
+    (simp (kv-back b, inverse-is h, scale-got e) at (c .before .before .update-all .ensures), c .zeros .ensures ∙ ap Fixed.zeros (got-is b) ∙ counted (kv b))
 
 pub step-spec : {M : Type 1} → statement M
 step-spec =
@@ -93,8 +108,11 @@ step-spec =
     slice-copy-out-kv
     residual-requires
     normalised-reciprocal-requires
+    quotient-requires
     shift-requires
     hi-requires
+    exponent-requires
     update-all-requires
+    zeros-requires
     same-length
     returns)
