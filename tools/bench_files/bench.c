@@ -1,19 +1,22 @@
 // bench TABLES RECORDING TURNS: times both decoders on the recording's accepted frames, turn by turn.
-// bench TABLES RECORDING ours|rust: runs one of them once and prints the number of frames, for callgrind.
+// bench TABLES RECORDING ours|desk|rust: runs one of them once and prints the number of frames, for callgrind.
 #include <stdint.h>
 #include <stdio.h>
 #include <stdlib.h>
 #include <string.h>
 #include <time.h>
 
-enum { WORDS = 5963, BYTES = 3908 };
+enum { WORDS = 5963, BYTES = 3908, TABLES = 2 * WORDS + BYTES, IMAGE = 525 };
 
 extern uint8_t bench_check(const int16_t *words, size_t word_count, const uint8_t *bytes, size_t byte_count);
 extern uint8_t bench_run(const int16_t *words, size_t word_count, const uint8_t *bytes, size_t byte_count, const uint8_t *frames, size_t frame_bytes, int16_t *samples, size_t sample_count);
+extern uint8_t drolkhise_reset(const uint8_t *tables, size_t table_bytes, uint8_t *image, size_t image_bytes);
+extern uint8_t drolkhise_decode(const uint8_t *tables, size_t table_bytes, uint8_t *image, size_t image_bytes, const uint8_t *payload, size_t payload_bytes, uint8_t *samples, size_t sample_bytes);
 extern size_t rust_run(const uint8_t *frames, size_t count, int16_t *samples);
 
 static int16_t words[WORDS];
 static uint8_t bytes[BYTES];
+static uint8_t tables[TABLES];
 
 static double now(void) {
     struct timespec t;
@@ -25,8 +28,18 @@ static uint8_t ours(const uint8_t *frames, size_t count, int16_t *samples) {
     return bench_run(words, WORDS, bytes, BYTES, frames, 20 * count, samples, 320);
 }
 
-// What callgrind counts: nothing else calls these two.
+// The same frames by the desk player's calls, an image from call to call; the mark that the last one leaves.
+static uint8_t desk(const uint8_t *frames, size_t count, int16_t *samples) {
+    uint8_t image[IMAGE];
+    drolkhise_reset(tables, TABLES, image, IMAGE);
+    for (size_t k = 0; k < count; k++) drolkhise_decode(tables, TABLES, image, IMAGE, frames + 20 * k, 20, (uint8_t *)samples, 640);
+    return image[IMAGE - 1];
+}
+
+// What callgrind counts: nothing else calls these three.
 __attribute__((noinline)) void counted_ours(const uint8_t *frames, size_t count, int16_t *samples) { ours(frames, count, samples); }
+
+__attribute__((noinline)) void counted_desk(const uint8_t *frames, size_t count, int16_t *samples) { desk(frames, count, samples); }
 
 __attribute__((noinline)) void counted_rust(const uint8_t *frames, size_t count, int16_t *samples) { rust_run(frames, count, samples); }
 
@@ -58,8 +71,8 @@ static size_t read_frames(FILE *in, uint8_t **frames) {
 }
 
 static void compare(const uint8_t *frames, size_t count, int turns) {
-    int16_t samples[2][320];
-    double best[3] = {1e9, 1e9, 1e9};
+    int16_t samples[3][320];
+    double best[4] = {1e9, 1e9, 1e9, 1e9};
     unsigned refused = 0;
     for (int turn = 0; turn < turns; turn++) {
         double t0 = now();
@@ -69,25 +82,31 @@ static void compare(const uint8_t *frames, size_t count, int turns) {
         double t2 = now();
         for (size_t k = 0; k < count; k++) refused |= bench_check(words, WORDS, bytes, BYTES);
         double t3 = now();
-        double took[3] = {t1 - t0, t2 - t1, t3 - t2};
-        for (int k = 0; k < 3; k++)
+        desk(frames, count, samples[2]);
+        double t4 = now();
+        double took[4] = {t1 - t0, t2 - t1, t3 - t2, t4 - t3};
+        for (int k = 0; k < 4; k++)
             if (took[k] < best[k]) best[k] = took[k];
     }
     double each = 1e6 / (double)count;
     printf("%zu frames: Rust %.2f us a frame; whole call %.2f, ratio %.2f; table check alone %.2f; decoding alone %.2f, ratio %.2f%s%s\n", count, best[0] * each, best[1] * each, best[1] / best[0],
            best[2] * each, (best[1] - best[2]) * each, (best[1] - best[2]) / best[0], refused ? "; THE SET IS REFUSED" : "",
            memcmp(samples[0], samples[1], sizeof samples[0]) ? "; last frames differ" : "; last frames equal");
+    printf("    the call from C, on an image: %.2f us a frame, %.3f of the call on states%s\n", best[3] * each, best[3] / best[1], memcmp(samples[0], samples[2], sizeof samples[0]) ? "; last frames differ" : "; last frames equal");
 }
 
 int main(int argc, char **argv) {
-    if (argc != 4) return fprintf(stderr, "bench TABLES RECORDING TURNS|ours|rust\n"), 2;
-    FILE *tables = fopen(argv[1], "rb"), *recording = fopen(argv[2], "rb");
-    if (!tables || !recording || fread(words, 2, WORDS, tables) != WORDS || fread(bytes, 1, BYTES, tables) != BYTES) return fprintf(stderr, "bench: no table file or no recording\n"), 2;
+    if (argc != 4) return fprintf(stderr, "bench TABLES RECORDING TURNS|ours|desk|rust\n"), 2;
+    FILE *file = fopen(argv[1], "rb"), *recording = fopen(argv[2], "rb");
+    if (!file || !recording || fread(tables, 1, TABLES, file) != TABLES) return fprintf(stderr, "bench: no table file or no recording\n"), 2;
+    memcpy(words, tables, sizeof words);
+    memcpy(bytes, tables + sizeof words, BYTES);
     uint8_t *frames = NULL;
     size_t count = read_frames(recording, &frames);
     int16_t samples[320];
-    if (!strcmp(argv[3], "ours") || !strcmp(argv[3], "rust")) {
+    if (!strcmp(argv[3], "ours") || !strcmp(argv[3], "desk") || !strcmp(argv[3], "rust")) {
         if (argv[3][0] == 'o') counted_ours(frames, count, samples);
+        else if (argv[3][0] == 'd') counted_desk(frames, count, samples);
         else counted_rust(frames, count, samples);
         printf("%zu\n", count);
         return 0;

@@ -2,6 +2,7 @@
 pub const SUBFRAME: usize = 80;
 pub const LPC_ORDER: usize = 10;
 
+pub mod calls;
 pub mod codebook;
 pub mod excitation;
 pub mod fixed;

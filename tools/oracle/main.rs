@@ -6,6 +6,7 @@
 //!                                       first line is `+`; with junk in the places that no frame may depend on
 //! oracle digest TABLES                  the same in a line for each line of the recording, 32 bits for each part; what was met goes
 //!                                       to standard error
+//! oracle calls TABLES..                the desk player's calls on standard input, as tools/test_c.c writes them, and whether the Rust answers them alike
 //! oracle compare LAUNCH SETS LINES      `LAUNCH trace` on sets of every kind, every figure compared (compare.rs)
 //! oracle frames COUNT [SEED]            that many random frames as lines of hexadecimal, damaged ones among them
 //! oracle recording TABLES COUNT [SEED]  that many lines, most of them frames that the set accepts (recordings.rs)
@@ -86,6 +87,16 @@ fn main() {
             } else {
                 let name = std::path::Path::new(&words[1]).file_name().unwrap().to_string_lossy().to_string();
                 eprintln!("{name}: {}", compare::said(&Native::digest(&name, &recording, &mut out)));
+            }
+        }
+        Some("calls") => {
+            let sets: Vec<Vec<u8>> = words[1..].iter().map(|file| std::fs::read(file).expect("the table file")).collect();
+            match Native::calls(&sets, &mut io::BufReader::with_capacity(1 << 16, io::stdin().lock())) {
+                Ok(said) => println!("{said}: equal"),
+                Err(place) => {
+                    println!("DIFFERENT: {place}");
+                    std::process::exit(1);
+                }
             }
         }
         Some("compare") => {

@@ -6,17 +6,17 @@ use crate::compare::Tally;
 use std::io::{Read, Write};
 
 /// The output filter's memory, which is private there. The same fields in the same order have the same layout; `check` looks.
-struct Memory {
-    fir: [i16; 6],
-    iir: [i64; 6],
+pub struct Memory {
+    pub fir: [i16; 6],
+    pub iir: [i64; 6],
 }
 
-fn memory(filter: &OutputFilter) -> Memory {
+pub fn memory(filter: &OutputFilter) -> Memory {
     let filter = filter.clone();
     unsafe { std::mem::transmute::<OutputFilter, Memory>(filter) }
 }
 
-fn check_layout() {
+pub fn check_layout() {
     let mut filter = OutputFilter::default();
     filter.run(&mut [3, 5, 7]);
     assert_eq!(memory(&filter).fir[..3], [7, 5, 3], "the filter's memory is laid out otherwise");
@@ -79,7 +79,7 @@ pub fn payload(text: &[u8]) -> Option<[u8; 20]> {
 }
 
 /// 0, or the first refusal number that applies to a frame of a sound set and state.
-fn refusal(payload: &[u8; 20]) -> u8 {
+pub fn refusal(payload: &[u8; 20]) -> u8 {
     let Ok(params) = post_fec::unpack(payload) else {
         return 6;
     };

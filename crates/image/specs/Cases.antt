@@ -21,7 +21,7 @@ unfolding starts layout
 places = refl
 
 -- zeros
-zero-image : image allZero ≡ replicate SIZE 0
+pub zero-image : image allZero ≡ replicate SIZE 0
 unfolding image join layout numbers allZero bytesOfAll bytesOf unsigned ofBits toBits
 zero-image = refl
 

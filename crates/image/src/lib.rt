@@ -78,7 +78,7 @@ fn to_bits(x: f32) -> u32
 }
 
 // The words from a place on, as many as `out` has.
-fn read_words(bytes: &[u8], at: usize, out: &mut [i16])
+pub fn read_words(bytes: &[u8], at: usize, out: &mut [i16])
     requires { ⌜ at + 2 * length (now out) ≤ length (now bytes) ⌝ }
     ensures { λ _. ⌜ now (out .exit) ≡ map (Image.signed 2) (Parts.numbersAt 2 (length (now (out .entry))) (now (bytes .entry)) at) ⌝ }
 {
@@ -169,7 +169,7 @@ fn put_long(n: u32, room: &mut [u8], at: usize)
 }
 
 // Words from a place of the room on.
-fn put_words(words: &[i16], room: &mut [u8], at: usize)
+pub fn put_words(words: &[i16], room: &mut [u8], at: usize)
     requires { ⌜ at + 2 * length (now words) ≤ length (now room) ⌝ }
     ensures { λ _. ⌜ now (room .exit) ≡ sets (now (room .entry)) at (Parts.bytesOfAll 2 (map (Image.unsigned 2) (now (words .entry)))) ⌝ }
 {

@@ -1,0 +1,140 @@
+-- The ways that each call goes: what the definitions give on each.
+use Prim.Native.Nat.{ℕ, zero, suc, _+_, _-_}
+use mathlib.Core.Path.{_≡_, refl, sym, ap, _∙_}
+use mathlib.Core.List.{List, [], map, append-nil}
+use native.Mathlib.Omega.{arith}
+use borrow.Author.Tests.{eq-eqb, ne-eqb}
+use lib.IntN.{ℤ, pos}
+use lib.ListN.{length, take, drop, set, replicate, length-map, length-drop, length-replicate, getD-replicate}
+use lib.Seq.{sets, sets-eq, take-all, drop-length}
+use Rattle.sequence.specs.Table.{table, table-of}
+use Rattle.celp.specs.declared.State.{State}
+use Rattle.celp.specs.declared.Answer.{Answer}
+use Rattle.celp.specs.declared.Returned.{Returned}
+use Rattle.celp.specs.State.{reset, coldStart, missedFrame}
+use Rattle.celp.specs.Celp as Celp
+use Rattle.image.specs.Parts.{numbersAt, length-all}
+use Rattle.image.specs.Image.{signed, unsigned, image, state}
+use Rattle.desk.specs.Images.{refusal-small, image-started, missed-same, missed-image}
+use Rattle.desk.specs.Desk.{words, bytes, sampleBytes, zeros, barred, unmarked, begun, resetNumber, resetImage, coldNumber, coldImage, decodeNumber, decodeImage, decodeSamples, missedNumber, missedImage}
+
+-- ---- what a call on states answers is its refusal number
+pub number-is : (words : List ℤ) (bytes : List ℕ) (s : State) (payload : List ℕ) (room : ℕ) → Celp.decode words bytes s payload room .number ≡ Celp.refusal words bytes s payload room
+unfolding Celp.decode Celp.answer Celp.accepted Celp.refused
+number-is words bytes s payload room = by (Celp.refusal words bytes s payload room)
+  where
+    by : (n : ℕ) → Celp.answer n words bytes s payload .number ≡ n
+    by zero = refl
+    by (suc n) = refl
+
+-- ---- the part of the tables behind the words
+pub behind : (tables : List ℕ) → take (length tables - 11926) (drop 11926 tables) ≡ bytes tables
+behind tables = take-all (length tables - 11926) (drop 11926 tables) (omega (arith, length-drop 11926 tables))
+
+-- ---- the words that were read
+pub words-are : (tables : List ℕ) (n : ℕ) (l : List ℤ) → n ≡ 5963 → l ≡ map (signed 2) (numbersAt 2 n tables 0) → l ≡ words tables
+unfolding words
+words-are tables n l h e = e ∙ ap (λ (k : ℕ). map (signed 2) (numbersAt 2 k tables 0)) h
+
+-- ---- the call on states was given what the definitions give it
+module _ (tables b payload : List ℕ) (ws : List ℤ) (ys : List ℕ) (s : State) (p : ws ≡ words tables) (q : ys ≡ take (length tables - 11926) (drop 11926 tables)) (r : s ≡ state b) where
+  pub answer-is : (a : Answer) (room : ℕ) → room ≡ 320 → a ≡ Celp.decode ws ys s payload room → a ≡ Celp.decode (words tables) (bytes tables) (state b) payload 320
+  answer-is a room t e = e ∙ (λ i. Celp.decode (p i) ((q ∙ behind tables) i) (r i) payload (t i))
+
+  pub samples-are : (xs old : List ℤ) → old ≡ replicate 320 (pos 0) → xs ≡ Celp.samples ws ys s payload old → xs ≡ Celp.samples (words tables) (bytes tables) (state b) payload (replicate 320 (pos 0))
+  samples-are xs old t e = e ∙ (λ i. Celp.samples (p i) ((q ∙ behind tables) i) (r i) payload (t i))
+
+pub started-is : (tables : List ℕ) (ws : List ℤ) (ys : List ℕ) → ws ≡ words tables → ys ≡ take (length tables - 11926) (drop 11926 tables) → (call : List ℤ → List ℕ → Returned) (x : Returned) → x ≡ call ws ys → x ≡ call (words tables) (bytes tables)
+started-is tables ws ys p q call x e = e ∙ (λ i. call (p i) ((q ∙ behind tables) i))
+
+-- ---- the samples fill their room
+pub filled : (old : List ℕ) (xs : List ℤ) → length old ≡ 640 → length xs ≡ 320 → sets old 0 (sampleBytes xs) ≡ sampleBytes xs
+filled old xs h e =
+    let m = length-map xs (unsigned 2) in
+    let l = length-all 2 (map (unsigned 2) xs) in
+    let k : 0 + length (sampleBytes xs) ≡ length old = omega arith in
+    let d : drop (0 + length (sampleBytes xs)) old ≡ [] = ap (λ (n : ℕ). drop n old) k ∙ drop-length old in
+    sets-eq (sampleBytes xs) old 0 (omega arith) ∙ rw d (append-nil (sampleBytes xs))
+
+-- ---- a list of zeros, as a loop writes it
+pub zeros-table : (n : ℕ) → table (λ (k : ℕ). 0) n ≡ zeros n
+zeros-table n = table-of (λ (k : ℕ). 0) 0 (zeros n) n (length-replicate n 0) (λ k h. sym (getD-replicate n k 0 0 h))
+
+-- ---- reset and cold start
+module _ (tables b : List ℕ) where
+  pub reset-eleven : (length b ≡ 525 → ⊥) → (11 ≡ resetNumber tables b) × (b ≡ resetImage tables b)
+  unfolding resetNumber resetImage barred begun
+  reset-eleven h = rw (ne-eqb (length b) 525 h) (refl, refl)
+
+  pub reset-one : length b ≡ 525 → (length tables ≡ 15834 → ⊥) → (1 ≡ resetNumber tables b) × (zeros 525 ≡ resetImage tables b)
+  unfolding resetNumber resetImage barred begun
+  reset-one h t = rw (eq-eqb (length b) 525 h, ne-eqb (length tables) 15834 t) (refl, refl)
+
+  pub cold-eleven : (length b ≡ 525 → ⊥) → (11 ≡ coldNumber tables b) × (b ≡ coldImage tables b)
+  unfolding coldNumber coldImage barred begun
+  cold-eleven h = rw (ne-eqb (length b) 525 h) (refl, refl)
+
+  pub cold-one : length b ≡ 525 → (length tables ≡ 15834 → ⊥) → (1 ≡ coldNumber tables b) × (zeros 525 ≡ coldImage tables b)
+  unfolding coldNumber coldImage barred begun
+  cold-one h t = rw (eq-eqb (length b) 525 h, ne-eqb (length tables) 15834 t) (refl, refl)
+
+  module _ (h : length b ≡ 525) (t : length tables ≡ 15834) (r : Returned) (i : List ℕ) where
+    pub reset-told : r ≡ reset (words tables) (bytes tables) → i ≡ image (r .state) → (r .number ≡ resetNumber tables b) × (i ≡ resetImage tables b)
+    unfolding resetNumber resetImage barred reset
+    reset-told e p = rw (eq-eqb (length b) 525 h, eq-eqb (length tables) 15834 t) (ap (λ (x : Returned). x .number) e, p ∙ ap (λ (x : Returned). image (x .state)) e ∙ image-started tables b 2)
+
+    pub cold-told : r ≡ coldStart (words tables) (bytes tables) → i ≡ image (r .state) → (r .number ≡ coldNumber tables b) × (i ≡ coldImage tables b)
+    unfolding coldNumber coldImage barred coldStart
+    cold-told e p = rw (eq-eqb (length b) 525 h, eq-eqb (length tables) 15834 t) (ap (λ (x : Returned). x .number) e, p ∙ ap (λ (x : Returned). image (x .state)) e ∙ image-started tables b 0)
+
+-- ---- a missed frame
+module _ (b : List ℕ) where
+  pub missed-eleven : (length b ≡ 525 → ⊥) → (11 ≡ missedNumber b) × (b ≡ missedImage b)
+  unfolding missedNumber missedImage unmarked
+  missed-eleven h = rw (ne-eqb (length b) 525 h) (refl, refl)
+
+  pub missed-told : (r : Returned) → length b ≡ 525 → r ≡ missedFrame (state b) → (r .number ≡ missedNumber b) × (set b 524 0 ≡ missedImage b)
+  missed-told r h e = (ap (λ (x : Returned). x .number) e ∙ sym (missed-same b h), sym (missed-image b h))
+
+-- ---- a frame
+module _ (tables b payload old : List ℕ) where
+  abbrev pub Told : ℕ → List ℕ → List ℕ → Type 0
+  Told n i s = (n ≡ decodeNumber tables b payload (length old)) × ((i ≡ decodeImage tables b payload (length old)) × (s ≡ decodeSamples tables b payload old))
+
+  pub decode-eleven : (length b ≡ 525 → ⊥) → Told 11 b old
+  unfolding decodeNumber decodeImage decodeSamples barred unmarked
+  decode-eleven h = rw (ne-eqb (length b) 525 h) (refl, (refl, refl))
+
+  module _ (h : length b ≡ 525) where
+    pub decode-one : (length tables ≡ 15834 → ⊥) → Told 1 (set b 524 0) old
+    unfolding decodeNumber decodeImage decodeSamples barred unmarked
+    decode-one t = rw (eq-eqb (length b) 525 h, ne-eqb (length tables) 15834 t) (refl, (refl, refl))
+
+    module _ (t : length tables ≡ 15834) where
+      pub decode-two : (length old ≡ 640 → ⊥) → Told 2 (set b 524 0) old
+      unfolding decodeNumber decodeImage decodeSamples barred unmarked
+      decode-two r = rw (eq-eqb (length b) 525 h, eq-eqb (length tables) 15834 t, ne-eqb (length old) 640 r) (refl, (refl, refl))
+
+      module _ (r : length old ≡ 640) (a : Answer) (e : a ≡ Celp.decode (words tables) (bytes tables) (state b) payload 320) where
+        abbrev why : ℕ
+        why = Celp.refusal (words tables) (bytes tables) (state b) payload 320
+
+        answered : a .number ≡ why
+        answered = ap (λ (x : Answer). x .number) e ∙ number-is (words tables) (bytes tables) (state b) payload 320
+
+        reached : decodeNumber tables b payload (length old) ≡ why
+        unfolding decodeNumber barred
+        reached = rw (eq-eqb (length b) 525 h, eq-eqb (length tables) 15834 t, eq-eqb (length old) 640 r)
+
+        pub decode-refused : (a .number ≡ 0 → ⊥) → Told (a .number) (set b 524 0) old
+        unfolding decodeImage decodeSamples unmarked
+        decode-refused z =
+            let l = refusal-small (words tables) (bytes tables) (state b) payload 320 in
+            let q = answered in
+            rw (reached, ne-eqb why 0 (λ k. z (q ∙ k)), ne-eqb why 11 (λ k. omega arith)) (q, (refl, refl))
+
+        pub decode-taken : a .number ≡ 0 → (i s : List ℕ) → i ≡ image (a .state) → s ≡ sampleBytes (Celp.samples (words tables) (bytes tables) (state b) payload (replicate 320 (pos 0))) → Told 0 i s
+        unfolding decodeImage decodeSamples
+        decode-taken z i s p q =
+            let n : why ≡ 0 = sym answered ∙ z in
+            rw (reached, n) (refl, (p ∙ ap (λ (x : Answer). image (x .state)) e, q))

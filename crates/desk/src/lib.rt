@@ -1,0 +1,123 @@
+// The decoder's calls for a player in C, over memory that it lends: the table file's bytes, a state's image, a payload, room for samples.
+ghost use mathlib.Core.Path.{_≡_};
+ghost use lib.ListN.{length};
+ghost use Rattle.desk.specs.Desk as Desk;
+
+// The length of the table file, where its last bytes begin, and how many bytes the samples of a frame take.
+const TABLES: usize = 15834;
+
+const BYTES: usize = 11926;
+
+const ROOM: usize = 640;
+
+// The place of an image's mark.
+const MARK: usize = image::SIZE - 1;
+
+// An image of another length.
+const NO_IMAGE: u8 = 11;
+
+// All zero.
+fn clear(image: &mut [u8])
+    ensures { λ _. ⌜ now (image .exit) ≡ Desk.zeros (length (now (image .entry))) ⌝ }
+{
+    let mut k = 0;
+    while k < image.len() {
+        image[k] = 0;
+        k += 1;
+    }
+}
+
+// The state that a call starts from, with mark 2.
+#[no_mangle]
+pub extern "C" fn drolkhise_reset(tables: &[u8], image: &mut [u8]) -> u8
+    ensures number { λ r. ⌜ r ≡ Desk.resetNumber (now (tables .entry)) (now (image .entry)) ⌝ }
+    ensures image { λ _. ⌜ now (image .exit) ≡ Desk.resetImage (now (tables .entry)) (now (image .entry)) ⌝ }
+{
+    if image.len() != image::SIZE {
+        return NO_IMAGE;
+    }
+    if tables.len() != TABLES {
+        clear(image);
+        return 1;
+    }
+    let mut words = [0i16; 5963];
+    image::read_words(tables, 0, &mut words);
+    let r = celp::reset(&words, &tables[BYTES..]);
+    let state = r.state;
+    image::write(state, image);
+    r.number
+}
+
+// The same state, with mark 0.
+#[no_mangle]
+pub extern "C" fn drolkhise_cold_start(tables: &[u8], image: &mut [u8]) -> u8
+    ensures number { λ r. ⌜ r ≡ Desk.coldNumber (now (tables .entry)) (now (image .entry)) ⌝ }
+    ensures image { λ _. ⌜ now (image .exit) ≡ Desk.coldImage (now (tables .entry)) (now (image .entry)) ⌝ }
+{
+    if image.len() != image::SIZE {
+        return NO_IMAGE;
+    }
+    if tables.len() != TABLES {
+        clear(image);
+        return 1;
+    }
+    let mut words = [0i16; 5963];
+    image::read_words(tables, 0, &mut words);
+    let r = celp::cold_start(&words, &tables[BYTES..]);
+    let state = r.state;
+    image::write(state, image);
+    r.number
+}
+
+// A frame: its samples and the next state's image, or where it is refused the mark alone, which becomes 0.
+#[no_mangle]
+pub extern "C" fn drolkhise_decode(
+    tables: &[u8],
+    image: &mut [u8],
+    payload: &[u8],
+    samples: &mut [u8],
+) -> u8
+    ensures number { λ r. ⌜ r ≡ Desk.decodeNumber (now (tables .entry)) (now (image .entry)) (now (payload .entry)) (length (now (samples .entry))) ⌝ }
+    ensures image { λ _. ⌜ now (image .exit) ≡ Desk.decodeImage (now (tables .entry)) (now (image .entry)) (now (payload .entry)) (length (now (samples .entry))) ⌝ }
+    ensures samples { λ _. ⌜ now (samples .exit) ≡ Desk.decodeSamples (now (tables .entry)) (now (image .entry)) (now (payload .entry)) (now (samples .entry)) ⌝ }
+{
+    if image.len() != image::SIZE {
+        return NO_IMAGE;
+    }
+    if tables.len() != TABLES {
+        image[MARK] = 0;
+        return 1;
+    }
+    if samples.len() != ROOM {
+        image[MARK] = 0;
+        return 2;
+    }
+    let mut words = [0i16; 5963];
+    image::read_words(tables, 0, &mut words);
+    let mut pcm = [0i16; 320];
+    let state = image::read(image);
+    let a = celp::decode(&words, &tables[BYTES..], state, payload, &mut pcm);
+    if a.number != 0 {
+        image[MARK] = 0; // whatever it came with
+        return a.number;
+    }
+    let next = a.state;
+    image::write(next, image);
+    image::put_words(&pcm, samples, 0);
+    0
+}
+
+// A frame that was lost: the mark becomes 0.
+#[no_mangle]
+pub extern "C" fn drolkhise_missed_frame(image: &mut [u8]) -> u8
+    ensures number { λ r. ⌜ r ≡ Desk.missedNumber (now (image .entry)) ⌝ }
+    ensures image { λ _. ⌜ now (image .exit) ≡ Desk.missedImage (now (image .entry)) ⌝ }
+{
+    if image.len() != image::SIZE {
+        return NO_IMAGE;
+    }
+    let state = image::read(image);
+    let r = celp::missed_frame(state);
+    image[MARK] = 0;
+    r.number
+}

@@ -1,0 +1,4 @@
+pub mod Small
+pub mod Held
+pub mod Runs
+pub mod TableFile

@@ -1,0 +1,81 @@
+/* Drolkhise for a player in C: the decoder of recorded railway radio calls, 320 samples a frame, over plain bytes that the caller lends.
+ *
+ * Link libdesk.a, which `rt staticlib desk` writes: an archive for x86-64 Linux that needs memcpy and memset and nothing else. A call takes some 30 KB
+ * of stack and no heap.
+ *
+ * Each buffer is a pointer and its length in bytes, and is looked at only where the length is the right one. Any lengths and any bytes may be lent;
+ * what is wrong with them is answered by a number (enum drolkhise_refusal). A null pointer may be lent with length 0, which is a wrong length.
+ * Buffers of one call may not overlap. Any alignment will do. Nothing is kept between calls, so any thread may call at any time, two threads at once
+ * where neither writes what the other is lent. */
+#ifndef DROLKHISE_H
+#define DROLKHISE_H
+
+#include <stddef.h>
+#include <stdint.h>
+
+#ifdef __cplusplus
+extern "C" {
+#endif
+
+/* The lengths, in bytes. */
+enum drolkhise_length {
+    DROLKHISE_TABLES = 15834, /* the table file: 5,963 words of 16 bits, low byte first, then 3,908 bytes; only read */
+    DROLKHISE_IMAGE = 525,    /* the image: all that the decoder carries from one frame of a call to the next; read and written */
+    DROLKHISE_PAYLOAD = 20,   /* a frame; only read */
+    DROLKHISE_SAMPLES = 640   /* room for 320 samples of 16 bits with a sign, low byte first; only written */
+};
+
+/* The image's last byte is the mark: 2, the next frame's sound has the sender's lags, gains and filters; 0 or 1, the decoder is still recovering
+ * from a loss or a late start. Look at it before a decode to know it of that frame. A player has no other use for the bytes of an image: it may
+ * copy them, keep them and decode on from them later. */
+enum { DROLKHISE_MARK = DROLKHISE_IMAGE - 1 };
+
+/* What a call answers: 0, or the first of these that applies, tried in the order in which they stand here. A call tries only what it is lent. */
+enum drolkhise_refusal {
+    DROLKHISE_ACCEPTED = 0,
+    DROLKHISE_IMAGE_LENGTH = 11,  /* the image is not 525 bytes long */
+    DROLKHISE_TABLES_LENGTH = 1,  /* the tables are not 15,834 bytes long */
+    DROLKHISE_SAMPLES_LENGTH = 2, /* the room for samples is not 640 bytes long */
+    DROLKHISE_PAYLOAD_LENGTH = 3, /* the frame is not 20 bytes long */
+    DROLKHISE_TABLES_RULE = 4,    /* the tables break a set rule */
+    DROLKHISE_IMAGE_RULE = 5,     /* the image is no decoder's: one of its floats is no number within 131,072, or its mark is above 2 */
+    DROLKHISE_PADDING = 6,        /* a padding bit of the frame is set: one of the two highest of its last byte */
+    DROLKHISE_CODE_INDEX = 7      /* a code index of the frame has no position under these tables */
+};
+
+/* Begins a call that is heard from its first frame: writes the image that the sender began with, mark 2.
+ * Refused (1, 4) it writes an image of zeros; with 11 nothing. */
+uint8_t drolkhise_reset(const uint8_t *tables, size_t tables_length, uint8_t *image, size_t image_length);
+
+/* Begins a call that may have been joined late: the same image with mark 0. Refusals as above. */
+uint8_t drolkhise_cold_start(const uint8_t *tables, size_t tables_length, uint8_t *image, size_t image_length);
+
+/* A frame: writes its 320 samples and the next image, whose mark is one higher, up to 2.
+ * Refused (1 to 7) it writes only the mark, 0, and leaves the samples as they were; with 11 nothing. */
+uint8_t drolkhise_decode(const uint8_t *tables, size_t tables_length, uint8_t *image, size_t image_length, const uint8_t *payload, size_t payload_length,
+                         uint8_t *samples, size_t samples_length);
+
+/* A frame of the call that did not arrive, or several together: writes only the mark, 0, also into an image that is no decoder's (5); with 11 nothing. */
+uint8_t drolkhise_missed_frame(uint8_t *image, size_t image_length);
+
+/* What a call answered, in words. */
+static inline const char *drolkhise_refusal_text(uint8_t number) {
+    switch (number) {
+    case DROLKHISE_ACCEPTED: return "accepted";
+    case DROLKHISE_TABLES_LENGTH: return "the tables are not 15,834 bytes long";
+    case DROLKHISE_SAMPLES_LENGTH: return "the room for samples is not 640 bytes long";
+    case DROLKHISE_PAYLOAD_LENGTH: return "the frame is not 20 bytes long";
+    case DROLKHISE_TABLES_RULE: return "the tables break a set rule";
+    case DROLKHISE_IMAGE_RULE: return "the image is no decoder's";
+    case DROLKHISE_PADDING: return "a padding bit of the frame is set";
+    case DROLKHISE_CODE_INDEX: return "a code index of the frame has no position";
+    case DROLKHISE_IMAGE_LENGTH: return "the image is not 525 bytes long";
+    default: return "no such refusal";
+    }
+}
+
+#ifdef __cplusplus
+}
+#endif
+
+#endif

@@ -1,0 +1,541 @@
+// The functions of include/drolkhise.h, called from C. tools/test_c builds this and runs it:
+//
+//     test_c text TABLES RECORDING                        decode's text of a recording, made by the four functions
+//     test_c lengths TABLES RECORDING                     every function with every length of every buffer
+//     test_c order TABLES RECORDING                       every fault of a buffer beside every fault of the others
+//     test_c images TABLES RECORDING                      an image damaged one byte at a time
+//     test_c calls SEED COUNT TABLES RECORDING [..]       so many random calls, over one table set or several
+//     test_c threads TABLES RECORDING                     four threads at once, and the peak of their stacks
+//
+// With -r before these, each call goes to standard output with all that it was lent and all that it left, for `oracle calls`; the rest is said on
+// standard error. Of the recording the last four need a frame that is accepted, `order` one that is refused with 7.
+//
+// Each buffer lies against a page that may not be touched, behind it or before it by turns, and on its other side are guard bytes.
+#define _DEFAULT_SOURCE
+#include <math.h>
+#include <pthread.h>
+#include <signal.h>
+#include <stdarg.h>
+#include <stdio.h>
+#include <stdlib.h>
+#include <string.h>
+#include <sys/mman.h>
+#include <unistd.h>
+
+#include "drolkhise.h"
+
+enum { RESET, COLD_START, DECODE, MISSED_FRAME };
+enum { TABLES, IMAGE, PAYLOAD, SAMPLES, BUFFERS };
+enum { GUARD = 0xa5, PAGE = 4096, FLOATS = 388, MOST_SETS = 16 };
+
+static const char *const functions[] = {"reset", "cold start", "decode", "missed frame"};
+static const size_t right[BUFFERS] = {DROLKHISE_TABLES, DROLKHISE_IMAGE, DROLKHISE_PAYLOAD, DROLKHISE_SAMPLES};
+// the number that another length is refused with
+static const uint8_t wrong[BUFFERS] = {1, 11, 3, 2};
+// which buffers a function is lent
+static const unsigned lent[] = {1 << TABLES | 1 << IMAGE, 1 << TABLES | 1 << IMAGE, 15, 1 << IMAGE};
+// which numbers it may answer: reset and cold start look at no byte of the image, a missed frame is lent no tables
+static const unsigned tried[] = {1 << 11 | 1 << 1 | 1 << 4, 1 << 11 | 1 << 1 | 1 << 4, 1 << 11 | 254, 1 << 11 | 1 << 5};
+// the numbers in the order in which they are tried
+static const uint8_t order[] = {11, 1, 2, 3, 4, 5, 6, 7};
+
+static FILE *records;
+static unsigned long made;
+
+static void fail(const char *format, ...) {
+    va_list words;
+    va_start(words, format);
+    fprintf(stderr, "test_c: FAILED: ");
+    vfprintf(stderr, format, words);
+    fprintf(stderr, "\n");
+    va_end(words);
+    exit(1);
+}
+
+static void said(const char *what) { fprintf(records ? stderr : stdout, "%s: %lu calls: ok\n", what, made); }
+
+// ---- table sets and recordings
+
+// A byte or two more than the right length may be lent.
+static uint8_t sets[MOST_SETS][DROLKHISE_TABLES + 2];
+
+// A line of a recording: a frame, or none.
+struct line {
+    int is_frame;
+    uint8_t payload[DROLKHISE_PAYLOAD];
+};
+
+struct recording {
+    int heard;
+    size_t count;
+    struct line *lines;
+} recordings[MOST_SETS];
+
+static void read_set(const char *path, int set) {
+    FILE *in = fopen(path, "rb");
+    if (!in || fread(sets[set], 1, DROLKHISE_TABLES, in) != DROLKHISE_TABLES || getc(in) != EOF) fail("%s is no table file", path);
+    fclose(in);
+}
+
+static void read_recording(const char *path, struct recording *r) {
+    FILE *in = fopen(path, "rb");
+    if (!in) fail("there is no recording %s", path);
+    size_t room = 0;
+    for (int first = 1, c = 0; c != EOF; first = 0) {
+        char text[42];
+        size_t n = 0;
+        while ((c = getc(in)) != EOF && c != '\n')
+            if (n < 41) text[n++] = (char)c;
+        text[n] = 0;
+        if (c == EOF && n == 0) break;
+        if (first && n == 1 && text[0] == '+') {
+            r->heard = 1;
+            continue;
+        }
+        if (r->count == room) r->lines = realloc(r->lines, (room = 2 * room + 64) * sizeof *r->lines);
+        struct line *line = &r->lines[r->count++];
+        memset(line, 0, sizeof *line);
+        // strspn stops at a byte 0, as at any other that is no digit
+        line->is_frame = n == 40 && strspn(text, "0123456789abcdefABCDEF") == 40;
+        for (int k = 0; line->is_frame && k < DROLKHISE_PAYLOAD; k++) {
+            char pair[3] = {text[2 * k], text[2 * k + 1], 0};
+            line->payload[k] = (uint8_t)strtoul(pair, NULL, 16);
+        }
+    }
+    fclose(in);
+}
+
+// ---- a call
+
+struct call {
+    int which, set, null;     // null: a buffer of length 0 is lent as a null pointer
+    size_t spoilt_at;         // this byte of the tables is changed by spoilt
+    uint8_t spoilt, fill;     // fill: what the room for samples holds before
+    size_t length[BUFFERS];
+    uint8_t image[2 * PAGE], payload[PAGE], samples[2 * PAGE];
+};
+
+// The bytes between two pages that may not be touched.
+static struct {
+    uint8_t *from;
+    size_t size;
+} room[BUFFERS] = {{NULL, 5 * PAGE}, {NULL, PAGE}, {NULL, PAGE}, {NULL, PAGE}};
+
+static uint8_t guards[5 * PAGE];
+
+// Counts the calls; of each two the second has every buffer on the side on which the first has it not.
+static unsigned turn;
+
+static void touched(int signal_number) {
+    static const char text[] = "test_c: FAILED: a page beside a buffer was touched\n";
+    (void)signal_number;
+    _exit(write(2, text, sizeof text - 1) < 0 ? 2 : 1);
+}
+
+static void make_rooms(void) {
+    signal(SIGSEGV, touched);
+    memset(guards, GUARD, sizeof guards);
+    for (int b = 0; b < BUFFERS; b++) {
+        uint8_t *all = mmap(NULL, room[b].size + 2 * PAGE, PROT_NONE, MAP_PRIVATE | MAP_ANONYMOUS, -1, 0);
+        room[b].from = all + PAGE;
+        if (all == MAP_FAILED || mprotect(room[b].from, room[b].size, PROT_READ | PROT_WRITE)) fail("no memory");
+    }
+}
+
+static void put_number(uint8_t *at, size_t n) {
+    for (int k = 0; k < 4; k++) at[k] = (uint8_t)(n >> (8 * k));
+}
+
+static void write_all(const uint8_t *bytes, size_t n) {
+    if (fwrite(bytes, 1, n, records) != n) fail("a call cannot be written");
+}
+
+// What a call was lent and what it left.
+static void record(const struct call *c, uint8_t number, const uint8_t *image_before) {
+    uint8_t head[25] = {(uint8_t)c->which, (uint8_t)c->set, number, c->fill, c->spoilt};
+    put_number(head + 5, c->spoilt_at);
+    for (int b = 0; b < BUFFERS; b++) put_number(head + 9 + 4 * b, c->length[b]);
+    write_all(head, sizeof head);
+    write_all(image_before, c->length[IMAGE]);
+    write_all(c->payload, c->length[PAYLOAD]);
+    write_all(c->image, c->length[IMAGE]);
+    write_all(c->samples, c->length[SAMPLES]);
+}
+
+// The image that a call may leave, by its number, of which the header speaks; one that is accepted may leave others too.
+static int image_right(const struct call *c, uint8_t number, const uint8_t *before, const uint8_t *after) {
+    uint8_t wanted[PAGE];
+    memcpy(wanted, before, c->length[IMAGE]);
+    if (number == DROLKHISE_IMAGE_LENGTH) return memcmp(wanted, after, c->length[IMAGE]) == 0;
+    if (c->which == RESET || c->which == COLD_START) {
+        memset(wanted, 0, DROLKHISE_IMAGE);
+        if (number == 0) return after[DROLKHISE_MARK] == (c->which == RESET ? 2 : 0) && memcmp(wanted, after, DROLKHISE_IMAGE) != 0;
+    } else if (c->which == DECODE && number == 0) {
+        return after[DROLKHISE_MARK] == (before[DROLKHISE_MARK] < 2 ? before[DROLKHISE_MARK] + 1 : 2);
+    } else {
+        wanted[DROLKHISE_MARK] = 0;
+    }
+    return memcmp(wanted, after, DROLKHISE_IMAGE) == 0;
+}
+
+// Makes the call, looks at all that it may not have touched, and keeps what it left.
+static uint8_t make(struct call *c) {
+    static uint8_t tables[DROLKHISE_TABLES + 2];
+    unsigned sides = turn & 1 ? ~(turn >> 1) : turn >> 1;
+    uint8_t *at[BUFFERS];
+    memcpy(tables, sets[c->set], sizeof tables);
+    if (c->spoilt_at < c->length[TABLES]) tables[c->spoilt_at] ^= c->spoilt;
+    memset(c->samples, c->fill, c->length[SAMPLES]);
+    const uint8_t *before[BUFFERS] = {tables, c->image, c->payload, c->samples};
+    for (int b = 0; b < BUFFERS; b++) {
+        memset(room[b].from, GUARD, room[b].size);
+        at[b] = room[b].from + (sides >> b & 1 ? 0 : room[b].size - c->length[b]);
+        memcpy(at[b], before[b], c->length[b]);
+    }
+    turn++;
+    uint8_t *l[BUFFERS];
+    for (int b = 0; b < BUFFERS; b++) l[b] = c->null && c->length[b] == 0 ? NULL : at[b];
+    uint8_t number = 255;
+    switch (c->which) {
+    case RESET: number = drolkhise_reset(l[TABLES], c->length[TABLES], l[IMAGE], c->length[IMAGE]); break;
+    case COLD_START: number = drolkhise_cold_start(l[TABLES], c->length[TABLES], l[IMAGE], c->length[IMAGE]); break;
+    case DECODE:
+        number = drolkhise_decode(l[TABLES], c->length[TABLES], l[IMAGE], c->length[IMAGE], l[PAYLOAD], c->length[PAYLOAD], l[SAMPLES], c->length[SAMPLES]);
+        break;
+    case MISSED_FRAME: number = drolkhise_missed_frame(l[IMAGE], c->length[IMAGE]); break;
+    }
+    made++;
+    const char *name = functions[c->which];
+    for (int b = 0; b < BUFFERS; b++) {
+        size_t front = (size_t)(at[b] - room[b].from), end = front + c->length[b];
+        if (memcmp(room[b].from, guards, front) || memcmp(room[b].from + end, guards, room[b].size - end)) fail("%s wrote beside buffer %d", name, b);
+    }
+    if (memcmp(at[TABLES], tables, c->length[TABLES])) fail("%s wrote into the tables", name);
+    if (memcmp(at[PAYLOAD], c->payload, c->length[PAYLOAD])) fail("%s wrote into the payload", name);
+    if ((c->which != DECODE || number != 0) && memcmp(at[SAMPLES], c->samples, c->length[SAMPLES])) fail("%s, answered %d, wrote samples", name, number);
+    if (!image_right(c, number, c->image, at[IMAGE])) fail("%s, answered %d, left an image that it may not leave", name, number);
+    uint8_t old[PAGE];
+    memcpy(old, c->image, c->length[IMAGE]);
+    memcpy(c->image, at[IMAGE], c->length[IMAGE]);
+    memcpy(c->samples, at[SAMPLES], c->length[SAMPLES]);
+    if (records) record(c, number, old);
+    return number;
+}
+
+static void right_lengths(struct call *c) {
+    memcpy(c->length, right, sizeof right);
+    c->spoilt = 0;
+}
+
+// The call must be answered so, with each buffer against the page behind it and against the one before it, and leave the same both times.
+static void expect(const struct call *c, uint8_t number, const char *what) {
+    static struct call once, again;
+    once = again = *c;
+    turn += turn & 1;
+    again.fill = (uint8_t)~c->fill;
+    uint8_t first = make(&once), second = make(&again);
+    const size_t *n = c->length;
+    if (first != number || second != number)
+        fail("%s, %s with lengths %zu %zu %zu %zu: answered %d and %d, not %d", what, functions[c->which], n[0], n[1], n[2], n[3], first, second, number);
+    if (memcmp(once.image, again.image, n[IMAGE])) fail("%s: two equal calls left two images", what);
+    if (number == 0 && c->which == DECODE && memcmp(once.samples, again.samples, n[SAMPLES])) fail("%s: of one frame two sounds", what);
+}
+
+// The first in the order of those numbers that a function may answer.
+static uint8_t first_of(unsigned faults) {
+    for (size_t k = 0; k < sizeof order; k++)
+        if (faults >> order[k] & 1) return order[k];
+    return 0;
+}
+
+// ---- a call of the demo, so far
+
+// An image from the middle of a call, and the frame that comes next; `seven` is one that is refused with 7.
+static struct call middle;
+static uint8_t seven[DROLKHISE_PAYLOAD];
+static int has_seven;
+
+static void play_to_middle(void) {
+    const struct recording *r = &recordings[0];
+    int accepted = 0;
+    middle.which = RESET;
+    right_lengths(&middle);
+    middle.fill = 0x3c;
+    if (make(&middle) != 0) fail("the table set is refused");
+    middle.which = DECODE;
+    for (size_t k = 0; k < r->count; k++) {
+        static struct call next;
+        if (!r->lines[k].is_frame) continue;
+        next = middle;
+        memcpy(next.payload, r->lines[k].payload, DROLKHISE_PAYLOAD);
+        uint8_t number = make(&next);
+        if (number == 7) memcpy(seven, next.payload, sizeof seven), has_seven = 1;
+        if (number != 0 || accepted > 20) continue;
+        memcpy(middle.payload, next.payload, sizeof next.payload);
+        if (++accepted <= 20) middle = next;
+    }
+    if (accepted < 20) fail("the recording has too few frames that are accepted");
+}
+
+// ---- the modes
+
+static void text(void) {
+    static struct call c;
+    const struct recording *r = &recordings[0];
+    c.which = r->heard ? RESET : COLD_START;
+    right_lengths(&c);
+    uint8_t number = make(&c);
+    if (number != 0) fail("%s", drolkhise_refusal_text(number));
+    for (size_t k = 0; k < r->count; k++) {
+        uint8_t mark = c.image[DROLKHISE_MARK];
+        c.which = r->lines[k].is_frame ? DECODE : MISSED_FRAME;
+        memcpy(c.payload, r->lines[k].payload, DROLKHISE_PAYLOAD);
+        number = make(&c);
+        if (c.which == MISSED_FRAME) number = 9;
+        if (number != 0) {
+            printf("refused %d\n", number);
+            continue;
+        }
+        printf("%d ", mark);
+        for (int s = 0; s < DROLKHISE_SAMPLES; s += 2) printf("%02x%02x", c.samples[s + 1], c.samples[s]);
+        printf("\n");
+    }
+}
+
+// Every length of one buffer, the others right; and with length 0 a null pointer too.
+static void lengths(void) {
+    static const size_t most[BUFFERS] = {DROLKHISE_TABLES + 2, 1100, 100, 1400};
+    static struct call c;
+    for (int which = RESET; which <= MISSED_FRAME; which++)
+        for (int b = 0; b < BUFFERS; b++)
+            for (size_t n = 0; n <= most[b]; n++) {
+                if (!(lent[which] >> b & 1)) continue;
+                c = middle;
+                c.which = which;
+                c.length[b] = n;
+                expect(&c, n == right[b] ? 0 : wrong[b], "a length");
+                c.null = 1;
+                if (n == 0) expect(&c, wrong[b], "a null pointer");
+            }
+    said("every length of every buffer of every function");
+}
+
+// Every fault of a buffer beside every fault of the others: 0, one short and one long, and what its bytes may have.
+static void every_fault(void) {
+    // the variants of a buffer: three lengths, then its bytes' faults, then none
+    static const uint8_t bytes[BUFFERS][4] = {{4, 4, 0}, {5, 5, 0}, {6, 6, 7, 0}, {0}};
+    static const int variants[BUFFERS] = {6, 6, 7, 4};
+    static struct call c;
+    if (!has_seven) fail("the recording has no frame that is refused with 7");
+    for (int which = RESET; which <= MISSED_FRAME; which++)
+        for (int v = 0; v < 6 * 6 * 7 * 4; v++) {
+            int variant[BUFFERS] = {v % 6, v / 6 % 6, v / 36 % 7, v / 252};
+            unsigned faults = 0;
+            int taken = 1;
+            c = middle;
+            c.which = which;
+            for (int b = 0; b < BUFFERS; b++) {
+                int k = variant[b];
+                if (!(lent[which] >> b & 1)) {
+                    taken &= k == variants[b] - 1;
+                    continue;
+                }
+                if (k < 3) c.length[b] = k == 0 ? 0 : k == 1 ? right[b] - 1 : right[b] + 1;
+                faults |= 1u << (k < 3 ? wrong[b] : bytes[b][k - 3]);
+            }
+            if (!taken) continue;
+            // base 0 is not 0; the last float's highest exponent bits are set
+            if (variant[TABLES] == 3) c.spoilt_at = 2 * 187, c.spoilt = 1;
+            if (variant[TABLES] == 4) c.spoilt_at = DROLKHISE_TABLES - 1, c.spoilt = 0x7f & ~sets[0][DROLKHISE_TABLES - 1];
+            if (variant[IMAGE] == 3) c.image[DROLKHISE_MARK] = 3;
+            if (variant[IMAGE] == 4) memset(c.image + FLOATS, 0xff, 4);
+            if (variant[PAYLOAD] == 3) c.payload[19] |= 0x40;
+            if (variant[PAYLOAD] == 4) memcpy(c.payload, seven, sizeof seven), c.payload[19] |= 0x80;
+            if (variant[PAYLOAD] == 5) memcpy(c.payload, seven, sizeof seven);
+            expect(&c, first_of(faults & tried[which]), "faults together");
+            c.null = 1;
+            expect(&c, first_of(faults & tried[which]), "faults together, null pointers");
+        }
+    said("faults together");
+}
+
+// Document 01's state rule.
+static int obeys(const uint8_t *image) {
+    for (size_t at = FLOATS; at < DROLKHISE_MARK; at += 4) {
+        uint32_t bits = (uint32_t)image[at] | (uint32_t)image[at + 1] << 8 | (uint32_t)image[at + 2] << 16 | (uint32_t)image[at + 3] << 24;
+        float x;
+        memcpy(&x, &bits, sizeof x);
+        if (!(fabsf(x) <= 131072)) return 0;
+    }
+    return image[DROLKHISE_MARK] <= 2;
+}
+
+// Floats and mark with every value of each byte, the whole numbers with each bit of each byte.
+static void images(void) {
+    static struct call c;
+    unsigned long broken = 0;
+    for (size_t at = 0; at < DROLKHISE_IMAGE; at++)
+        for (int v = 1; v < 256; v++) {
+            if (at < FLOATS && (v & (v - 1))) continue;
+            c = middle;
+            c.image[at] ^= (uint8_t)v;
+            int whole = obeys(c.image);
+            broken += !whole;
+            expect(&c, whole ? 0 : 5, "a damaged image");
+            c.payload[19] |= 0x80;
+            expect(&c, whole ? 6 : 5, "a damaged image and a padding bit");
+            c.which = MISSED_FRAME;
+            expect(&c, whole ? 0 : 5, "a damaged image");
+        }
+    if (broken == 0) fail("no image was broken");
+    fprintf(records ? stderr : stdout, "%lu images break the state rule; ", broken);
+    said("images damaged one byte at a time");
+}
+
+static uint64_t seed;
+
+static uint32_t below(uint32_t n) {
+    seed ^= seed >> 12;
+    seed ^= seed << 25;
+    seed ^= seed >> 27;
+    return (uint32_t)((seed * 0x2545f4914f6cdd1d) >> 33) % n;
+}
+
+// Whole numbers of all sizes; floats mostly within the state rule, its bound among them.
+static void random_image(uint8_t *image) {
+    for (size_t k = 0; k < FLOATS; k++) image[k] = (uint8_t)below(256);
+    for (size_t at = FLOATS; at < DROLKHISE_MARK; at += 4) {
+        uint32_t bits = below(2) << 31 | below(144) << 23 | below(1 << 23);
+        if (below(50) == 0) bits = below(2) << 31 | 0x48000000;
+        if (below(2000) == 0) bits = below(2) << 31 | (0x48000001 + below(0x37fffffe));
+        put_number(image + at, bits);
+    }
+    image[DROLKHISE_MARK] = (uint8_t)below(below(30) ? 3 : 256);
+}
+
+// One byte of it becomes another.
+static void damage(uint8_t *bytes, size_t n) { bytes[below((uint32_t)n)] ^= (uint8_t)(1 + below(255)); }
+
+// Sixteen images, each begun, decoded on, damaged and drawn anew by chance.
+static void calls(unsigned long count, int set_count) {
+    static struct call c;
+    static uint8_t held[16][DROLKHISE_IMAGE];
+    size_t next[MOST_SETS] = {0};
+    int set_of[16] = {0};
+    unsigned long by[4][12] = {{0}};
+    for (unsigned long n = 0; n < count; n++) {
+        uint32_t k = below(16), kind = below(100);
+        if (kind == 0) set_of[k] = (int)below((uint32_t)set_count);
+        if (kind == 1) random_image(held[k]);
+        if (kind == 2) damage(held[k], DROLKHISE_IMAGE);
+        const struct recording *r = &recordings[set_of[k]];
+        struct line line = r->lines[next[set_of[k]]++ % r->count];
+        if (kind >= 3 && kind < 8)
+            for (int j = 0; j < DROLKHISE_PAYLOAD; j++) line.payload[j] = (uint8_t)below(256);
+        if (kind >= 8 && kind < 12) damage(line.payload, DROLKHISE_PAYLOAD);
+        right_lengths(&c);
+        c.null = (int)below(2);
+        c.which = line.is_frame ? DECODE : MISSED_FRAME;
+        // an image that is refused with 5 is refused until it is begun anew
+        if (kind >= 12 && kind < 16) c.which = kind < 14 ? RESET : COLD_START;
+        if (kind == 16) c.which = MISSED_FRAME;
+        if (below(33) == 0) c.spoilt_at = below(DROLKHISE_TABLES), c.spoilt = (uint8_t)(1 + below(255));
+        if (below(33) == 0) {
+            int b = (int)below(BUFFERS);
+            c.length[b] = below(2) ? right[b] + below(3) - 1 : below((uint32_t)right[b] + 2);
+            if (b == PAYLOAD || b == IMAGE) c.length[b] += below(2) * below(100);
+        }
+        c.set = set_of[k];
+        c.fill = (uint8_t)below(256);
+        memset(c.image, c.fill, sizeof c.image);
+        memcpy(c.image, held[k], DROLKHISE_IMAGE);
+        memcpy(c.payload, line.payload, DROLKHISE_PAYLOAD);
+        uint8_t number = make(&c);
+        if (number > 11) fail("%s answered %d", functions[c.which], number);
+        by[c.which][number]++;
+        if (c.length[IMAGE] == DROLKHISE_IMAGE) memcpy(held[k], c.image, DROLKHISE_IMAGE);
+    }
+    // so many calls meet every answer of every function
+    for (int which = RESET; which <= MISSED_FRAME && count >= 100000; which++)
+        for (int number = 0; number < 12; number++)
+            if ((tried[which] | 1) >> number & 1 && by[which][number] == 0) fail("no %s was answered %d", functions[which], number);
+    said("random calls");
+}
+
+// ---- threads
+
+enum { THREADS = 4, STACK = 1 << 20, PAINT = 0x5a };
+
+struct player {
+    uint8_t *stack;
+    uint64_t digest;
+    pthread_t thread;
+};
+
+static uint64_t digest(uint64_t d, const uint8_t *bytes, size_t n) {
+    for (size_t k = 0; k < n; k++) d = (d ^ bytes[k]) * 0x100000001b3;
+    return d;
+}
+
+// The whole recording, with buffers of this thread's own, and a digest of all that was left.
+static void *play(void *given) {
+    struct player *p = given;
+    const struct recording *r = &recordings[0];
+    uint8_t image[DROLKHISE_IMAGE], samples[DROLKHISE_SAMPLES] = {0};
+    uint64_t d = 0xcbf29ce484222325;
+    for (int times = 0; times < 5; times++) {
+        uint8_t number = drolkhise_reset(sets[0], DROLKHISE_TABLES, image, sizeof image);
+        for (size_t k = 0; k < r->count; k++) {
+            number = r->lines[k].is_frame ? drolkhise_decode(sets[0], DROLKHISE_TABLES, image, sizeof image, r->lines[k].payload, DROLKHISE_PAYLOAD, samples, sizeof samples)
+                                          : drolkhise_missed_frame(image, sizeof image);
+            d = digest(digest(digest(d, &number, 1), image, sizeof image), samples, sizeof samples);
+        }
+    }
+    p->digest = d;
+    return NULL;
+}
+
+static void threads(void) {
+    static struct player alone, players[THREADS];
+    size_t deepest = 0;
+    play(&alone);
+    for (int t = 0; t < THREADS; t++) {
+        pthread_attr_t how;
+        players[t].stack = mmap(NULL, STACK, PROT_READ | PROT_WRITE, MAP_PRIVATE | MAP_ANONYMOUS, -1, 0);
+        if (players[t].stack == MAP_FAILED) fail("no memory");
+        memset(players[t].stack, PAINT, STACK);
+        if (pthread_attr_init(&how) || pthread_attr_setstack(&how, players[t].stack, STACK) || pthread_create(&players[t].thread, &how, play, &players[t])) fail("no thread");
+    }
+    for (int t = 0; t < THREADS; t++) {
+        size_t free = 0;
+        pthread_join(players[t].thread, NULL);
+        if (players[t].digest != alone.digest) fail("a thread beside others decoded something else");
+        while (players[t].stack[free] == PAINT) free++;
+        if (STACK - free > deepest) deepest = STACK - free;
+    }
+    printf("%d threads at once: as one alone; %zu bytes of stack at most, a thread's own among them\n", (int)THREADS, deepest);
+}
+
+int main(int argc, char **argv) {
+    const char *mode;
+    if (argc > 1 && !strcmp(argv[1], "-r")) records = stdout, argc--, argv++;
+    mode = argc > 1 ? argv[1] : "";
+    int random = !strcmp(mode, "calls"), from = random ? 4 : 2;
+    if (argc < from + 2 || (argc - from) / 2 > MOST_SETS) fail("test_c.c says what it takes");
+    for (int k = 0; from + 2 * k + 1 < argc; k++) {
+        read_set(argv[from + 2 * k], k);
+        read_recording(argv[from + 2 * k + 1], &recordings[k]);
+        if (recordings[k].count == 0) fail("a recording is empty");
+    }
+    make_rooms();
+    if (!random && strcmp(mode, "text") && strcmp(mode, "threads")) play_to_middle();
+    if (random) seed = strtoull(argv[2], NULL, 10) * 2 + 1, calls(strtoul(argv[3], NULL, 10), (argc - from) / 2);
+    else if (!strcmp(mode, "text")) text();
+    else if (!strcmp(mode, "lengths")) lengths();
+    else if (!strcmp(mode, "order")) every_fault();
+    else if (!strcmp(mode, "images")) images();
+    else if (!strcmp(mode, "threads")) threads();
+    else fail("no mode %s", mode);
+    if (fflush(stdout) || ferror(stdout)) fail("cannot write");
+    return 0;
+}
