@@ -1,7 +1,7 @@
 /* Drolkhise for a player in C: the decoder of recorded railway radio calls, 320 samples a frame, over plain bytes that the caller lends.
  *
- * Link libdesk.a, which `rt staticlib desk` writes: an archive for x86-64 Linux that needs memcpy and memset and nothing else. A call takes some 30 KB
- * of stack and no heap.
+ * Link libdesk.a, which `rt staticlib desk` writes: an archive for x86-64 Linux that needs memcpy and memset and nothing else. A call takes some 40 KB
+ * of stack and no heap; drolkhise_decode_frames some 80 KB.
  *
  * Each buffer is a pointer and its length in bytes, and is looked at only where the length is the right one. Any lengths and any bytes may be lent;
  * what is wrong with them is answered by a number (enum drolkhise_refusal). A null pointer may be lent with length 0, which is a wrong length.
@@ -25,18 +25,22 @@ enum drolkhise_length {
     DROLKHISE_SAMPLES = 640   /* room for 320 samples of 16 bits with a sign, low byte first; only written */
 };
 
+/* How many frames one call of drolkhise_decode_frames may have. */
+enum { DROLKHISE_MOST_FRAMES = 64 };
+
 /* The image's last byte is the mark: 2, the next frame's sound has the sender's lags, gains and filters; 0 or 1, the decoder is still recovering
  * from a loss or a late start. Look at it before a decode to know it of that frame. A player has no other use for the bytes of an image: it may
  * copy them, keep them and decode on from them later. */
 enum { DROLKHISE_MARK = DROLKHISE_IMAGE - 1 };
 
-/* What a call answers: 0, or the first of these that applies, tried in the order in which they stand here. A call tries only what it is lent. */
+/* What a call answers: 0, or the first of these that applies, tried in the order in which they stand here, but that drolkhise_decode_frames tries 3 before 2.
+ * A call tries only what it is lent. */
 enum drolkhise_refusal {
     DROLKHISE_ACCEPTED = 0,
     DROLKHISE_IMAGE_LENGTH = 11,  /* the image is not 525 bytes long */
     DROLKHISE_TABLES_LENGTH = 1,  /* the tables are not 15,834 bytes long */
-    DROLKHISE_SAMPLES_LENGTH = 2, /* the room for samples is not 640 bytes long */
-    DROLKHISE_PAYLOAD_LENGTH = 3, /* the frame is not 20 bytes long */
+    DROLKHISE_SAMPLES_LENGTH = 2, /* the room for samples is not 640 bytes long, of several frames that for samples or for numbers not as long as they ask */
+    DROLKHISE_PAYLOAD_LENGTH = 3, /* the frame is not 20 bytes long, or several are not 1 to 64 frames */
     DROLKHISE_TABLES_RULE = 4,    /* the tables break a set rule */
     DROLKHISE_IMAGE_RULE = 5,     /* the image is no decoder's: one of its floats is no number within 131,072, or its mark is above 2 */
     DROLKHISE_PADDING = 6,        /* a padding bit of the frame is set: one of the two highest of its last byte */
@@ -55,6 +59,14 @@ uint8_t drolkhise_cold_start(const uint8_t *tables, size_t tables_length, uint8_
 uint8_t drolkhise_decode(const uint8_t *tables, size_t tables_length, uint8_t *image, size_t image_length, const uint8_t *payload, size_t payload_length,
                          uint8_t *samples, size_t samples_length);
 
+/* 1 to 64 frames, their payloads laid end to end: what their single calls write, one after the other, with the tables and the image looked through once. There
+ * is room for 640 bytes of samples a frame, which is read too, and for one number a frame: what its own call would answer, 0, 6 or 7. A frame that is refused
+ * leaves its samples as they were and the mark 0, and the next goes on from there.
+ * Refused (1, 3, 2, 4, 5; 3 where the payloads are not 20 bytes a frame or not 1 to 64 frames, 2 where either room is not as long as they ask) it decodes no
+ * frame and writes only the mark, 0; with 11 nothing. */
+uint8_t drolkhise_decode_frames(const uint8_t *tables, size_t tables_length, uint8_t *image, size_t image_length, const uint8_t *payloads, size_t payloads_length,
+                                uint8_t *samples, size_t samples_length, uint8_t *numbers, size_t numbers_length);
+
 /* A frame of the call that did not arrive, or several together: writes only the mark, 0, also into an image that is no decoder's (5); with 11 nothing. */
 uint8_t drolkhise_missed_frame(uint8_t *image, size_t image_length);
 
@@ -63,8 +75,8 @@ static inline const char *drolkhise_refusal_text(uint8_t number) {
     switch (number) {
     case DROLKHISE_ACCEPTED: return "accepted";
     case DROLKHISE_TABLES_LENGTH: return "the tables are not 15,834 bytes long";
-    case DROLKHISE_SAMPLES_LENGTH: return "the room for samples is not 640 bytes long";
-    case DROLKHISE_PAYLOAD_LENGTH: return "the frame is not 20 bytes long";
+    case DROLKHISE_SAMPLES_LENGTH: return "the room for samples is not 640 bytes a frame, or that for numbers not one";
+    case DROLKHISE_PAYLOAD_LENGTH: return "the frame is not 20 bytes long, or there are not 1 to 64";
     case DROLKHISE_TABLES_RULE: return "the tables break a set rule";
     case DROLKHISE_IMAGE_RULE: return "the image is no decoder's";
     case DROLKHISE_PADDING: return "a padding bit of the frame is set";

@@ -1,6 +1,7 @@
 // The functions of include/drolkhise.h, called from C. tools/test_c builds this and runs it:
 //
-//     test_c text TABLES RECORDING                        decode's text of a recording, made by the four functions
+//     test_c text TABLES RECORDING                        decode's text of a recording, made by the functions for single frames
+//     test_c batches TABLES RECORDING                     the recording in every batch of 1 to 64 frames beside its single frames; frames refused in every place
 //     test_c lengths TABLES RECORDING                     every function with every length of every buffer
 //     test_c order TABLES RECORDING                       every fault of a buffer beside every fault of the others
 //     test_c images TABLES RECORDING                      an image damaged one byte at a time
@@ -8,7 +9,8 @@
 //     test_c threads TABLES RECORDING                     four threads at once, and the peak of their stacks
 //
 // With -r before these, each call goes to standard output with all that it was lent and all that it left, for `oracle calls`; the rest is said on
-// standard error. Of the recording the last four need a frame that is accepted, `order` one that is refused with 7.
+// standard error. Of the recording all but `text` need frames that are accepted, `order` one that is refused with 7.
+// What several frames in one call are answered with, and leave, is compared with their single calls, each time that they are called.
 //
 // Each buffer lies against a page that may not be touched, behind it or before it by turns, and on its other side are guard bytes.
 #define _DEFAULT_SOURCE
@@ -24,20 +26,22 @@
 
 #include "drolkhise.h"
 
-enum { RESET, COLD_START, DECODE, MISSED_FRAME };
-enum { TABLES, IMAGE, PAYLOAD, SAMPLES, BUFFERS };
+enum { RESET, COLD_START, DECODE, MISSED_FRAME, DECODE_FRAMES, FUNCTIONS };
+enum { TABLES, IMAGE, PAYLOAD, SAMPLES, NUMBERS, BUFFERS };
+enum { MOST = DROLKHISE_MOST_FRAMES };
 enum { GUARD = 0xa5, PAGE = 4096, FLOATS = 388, MOST_SETS = 16 };
 
-static const char *const functions[] = {"reset", "cold start", "decode", "missed frame"};
-static const size_t right[BUFFERS] = {DROLKHISE_TABLES, DROLKHISE_IMAGE, DROLKHISE_PAYLOAD, DROLKHISE_SAMPLES};
+static const char *const functions[] = {"reset", "cold start", "decode", "missed frame", "decode frames"};
+// of one frame
+static const size_t right[BUFFERS] = {DROLKHISE_TABLES, DROLKHISE_IMAGE, DROLKHISE_PAYLOAD, DROLKHISE_SAMPLES, 1};
 // the number that another length is refused with
-static const uint8_t wrong[BUFFERS] = {1, 11, 3, 2};
+static const uint8_t wrong[BUFFERS] = {1, 11, 3, 2, 2};
 // which buffers a function is lent
-static const unsigned lent[] = {1 << TABLES | 1 << IMAGE, 1 << TABLES | 1 << IMAGE, 15, 1 << IMAGE};
+static const unsigned lent[] = {1 << TABLES | 1 << IMAGE, 1 << TABLES | 1 << IMAGE, 15, 1 << IMAGE, 31};
 // which numbers it may answer: reset and cold start look at no byte of the image, a missed frame is lent no tables
-static const unsigned tried[] = {1 << 11 | 1 << 1 | 1 << 4, 1 << 11 | 1 << 1 | 1 << 4, 1 << 11 | 254, 1 << 11 | 1 << 5};
-// the numbers in the order in which they are tried
-static const uint8_t order[] = {11, 1, 2, 3, 4, 5, 6, 7};
+static const unsigned tried[] = {1 << 11 | 1 << 1 | 1 << 4, 1 << 11 | 1 << 1 | 1 << 4, 1 << 11 | 254, 1 << 11 | 1 << 5, 1 << 11 | 62};
+// the numbers in the order in which they are tried, for a frame and for several
+static const uint8_t order[2][8] = {{11, 1, 2, 3, 4, 5, 6, 7}, {11, 1, 3, 2, 4, 5}};
 
 static FILE *records;
 static unsigned long made;
@@ -110,18 +114,18 @@ static void read_recording(const char *path, struct recording *r) {
 struct call {
     int which, set, null;     // null: a buffer of length 0 is lent as a null pointer
     size_t spoilt_at;         // this byte of the tables is changed by spoilt
-    uint8_t spoilt, fill;     // fill: what the room for samples holds before
+    uint8_t spoilt, fill;     // fill: what the rooms for samples and numbers hold before
     size_t length[BUFFERS];
-    uint8_t image[2 * PAGE], payload[PAGE], samples[2 * PAGE];
+    uint8_t image[2 * PAGE], payload[PAGE], samples[11 * PAGE], numbers[PAGE];
 };
 
 // The bytes between two pages that may not be touched.
 static struct {
     uint8_t *from;
     size_t size;
-} room[BUFFERS] = {{NULL, 5 * PAGE}, {NULL, PAGE}, {NULL, PAGE}, {NULL, PAGE}};
+} room[BUFFERS] = {{NULL, 5 * PAGE}, {NULL, PAGE}, {NULL, PAGE}, {NULL, 11 * PAGE}, {NULL, PAGE}};
 
-static uint8_t guards[5 * PAGE];
+static uint8_t guards[11 * PAGE];
 
 // Counts the calls; of each two the second has every buffer on the side on which the first has it not.
 static unsigned turn;
@@ -152,7 +156,7 @@ static void write_all(const uint8_t *bytes, size_t n) {
 
 // What a call was lent and what it left.
 static void record(const struct call *c, uint8_t number, const uint8_t *image_before) {
-    uint8_t head[25] = {(uint8_t)c->which, (uint8_t)c->set, number, c->fill, c->spoilt};
+    uint8_t head[29] = {(uint8_t)c->which, (uint8_t)c->set, number, c->fill, c->spoilt};
     put_number(head + 5, c->spoilt_at);
     for (int b = 0; b < BUFFERS; b++) put_number(head + 9 + 4 * b, c->length[b]);
     write_all(head, sizeof head);
@@ -160,6 +164,7 @@ static void record(const struct call *c, uint8_t number, const uint8_t *image_be
     write_all(c->payload, c->length[PAYLOAD]);
     write_all(c->image, c->length[IMAGE]);
     write_all(c->samples, c->length[SAMPLES]);
+    write_all(c->numbers, c->length[NUMBERS]);
 }
 
 // The image that a call may leave, by its number, of which the header speaks; one that is accepted may leave others too.
@@ -170,12 +175,27 @@ static int image_right(const struct call *c, uint8_t number, const uint8_t *befo
     if (c->which == RESET || c->which == COLD_START) {
         memset(wanted, 0, DROLKHISE_IMAGE);
         if (number == 0) return after[DROLKHISE_MARK] == (c->which == RESET ? 2 : 0) && memcmp(wanted, after, DROLKHISE_IMAGE) != 0;
+    } else if (c->which == DECODE_FRAMES && number == 0) {
+        return 1; // as_single looks at it
     } else if (c->which == DECODE && number == 0) {
         return after[DROLKHISE_MARK] == (before[DROLKHISE_MARK] < 2 ? before[DROLKHISE_MARK] + 1 : 2);
     } else {
         wanted[DROLKHISE_MARK] = 0;
     }
     return memcmp(wanted, after, DROLKHISE_IMAGE) == 0;
+}
+
+// Frames in one call left what their single calls leave, one after the other, each with its part of the room as it was.
+static void as_single(const struct call *c, const uint8_t *tables, uint8_t *const *at) {
+    static uint8_t image[DROLKHISE_IMAGE], samples[DROLKHISE_SAMPLES];
+    memcpy(image, c->image, sizeof image);
+    for (size_t k = 0; k < c->length[NUMBERS]; k++) {
+        memset(samples, c->fill, sizeof samples);
+        uint8_t number = drolkhise_decode(tables, DROLKHISE_TABLES, image, sizeof image, c->payload + k * DROLKHISE_PAYLOAD, DROLKHISE_PAYLOAD, samples, sizeof samples);
+        if (at[NUMBERS][k] != number) fail("frame %zu of %zu: its own call %d, together %d", k, c->length[NUMBERS], number, at[NUMBERS][k]);
+        if (memcmp(at[SAMPLES] + k * DROLKHISE_SAMPLES, samples, sizeof samples)) fail("frame %zu of %zu has other samples", k, c->length[NUMBERS]);
+    }
+    if (memcmp(at[IMAGE], image, sizeof image)) fail("%zu frames left another image than their single calls", c->length[NUMBERS]);
 }
 
 // Makes the call, looks at all that it may not have touched, and keeps what it left.
@@ -186,7 +206,8 @@ static uint8_t make(struct call *c) {
     memcpy(tables, sets[c->set], sizeof tables);
     if (c->spoilt_at < c->length[TABLES]) tables[c->spoilt_at] ^= c->spoilt;
     memset(c->samples, c->fill, c->length[SAMPLES]);
-    const uint8_t *before[BUFFERS] = {tables, c->image, c->payload, c->samples};
+    memset(c->numbers, c->fill, c->length[NUMBERS]);
+    const uint8_t *before[BUFFERS] = {tables, c->image, c->payload, c->samples, c->numbers};
     for (int b = 0; b < BUFFERS; b++) {
         memset(room[b].from, GUARD, room[b].size);
         at[b] = room[b].from + (sides >> b & 1 ? 0 : room[b].size - c->length[b]);
@@ -203,6 +224,10 @@ static uint8_t make(struct call *c) {
         number = drolkhise_decode(l[TABLES], c->length[TABLES], l[IMAGE], c->length[IMAGE], l[PAYLOAD], c->length[PAYLOAD], l[SAMPLES], c->length[SAMPLES]);
         break;
     case MISSED_FRAME: number = drolkhise_missed_frame(l[IMAGE], c->length[IMAGE]); break;
+    case DECODE_FRAMES:
+        number = drolkhise_decode_frames(l[TABLES], c->length[TABLES], l[IMAGE], c->length[IMAGE], l[PAYLOAD], c->length[PAYLOAD], l[SAMPLES], c->length[SAMPLES],
+                                         l[NUMBERS], c->length[NUMBERS]);
+        break;
     }
     made++;
     const char *name = functions[c->which];
@@ -212,12 +237,16 @@ static uint8_t make(struct call *c) {
     }
     if (memcmp(at[TABLES], tables, c->length[TABLES])) fail("%s wrote into the tables", name);
     if (memcmp(at[PAYLOAD], c->payload, c->length[PAYLOAD])) fail("%s wrote into the payload", name);
-    if ((c->which != DECODE || number != 0) && memcmp(at[SAMPLES], c->samples, c->length[SAMPLES])) fail("%s, answered %d, wrote samples", name, number);
+    int writes = c->which == DECODE || c->which == DECODE_FRAMES;
+    if (!(writes && number == 0) && memcmp(at[SAMPLES], c->samples, c->length[SAMPLES])) fail("%s, answered %d, wrote samples", name, number);
+    if (!(c->which == DECODE_FRAMES && number == 0) && memcmp(at[NUMBERS], c->numbers, c->length[NUMBERS])) fail("%s, answered %d, wrote numbers", name, number);
+    if (c->which == DECODE_FRAMES && number == 0) as_single(c, tables, at);
     if (!image_right(c, number, c->image, at[IMAGE])) fail("%s, answered %d, left an image that it may not leave", name, number);
     uint8_t old[PAGE];
     memcpy(old, c->image, c->length[IMAGE]);
     memcpy(c->image, at[IMAGE], c->length[IMAGE]);
     memcpy(c->samples, at[SAMPLES], c->length[SAMPLES]);
+    memcpy(c->numbers, at[NUMBERS], c->length[NUMBERS]);
     if (records) record(c, number, old);
     return number;
 }
@@ -225,6 +254,11 @@ static uint8_t make(struct call *c) {
 static void right_lengths(struct call *c) {
     memcpy(c->length, right, sizeof right);
     c->spoilt = 0;
+}
+
+static void set_frames(struct call *c, size_t n) {
+    c->which = DECODE_FRAMES;
+    for (int b = PAYLOAD; b < BUFFERS; b++) c->length[b] = n * right[b];
 }
 
 // The call must be answered so, with each buffer against the page behind it and against the one before it, and leave the same both times.
@@ -236,21 +270,23 @@ static void expect(const struct call *c, uint8_t number, const char *what) {
     uint8_t first = make(&once), second = make(&again);
     const size_t *n = c->length;
     if (first != number || second != number)
-        fail("%s, %s with lengths %zu %zu %zu %zu: answered %d and %d, not %d", what, functions[c->which], n[0], n[1], n[2], n[3], first, second, number);
+        fail("%s, %s with lengths %zu %zu %zu %zu %zu: answered %d and %d, not %d", what, functions[c->which], n[0], n[1], n[2], n[3], n[4], first, second, number);
     if (memcmp(once.image, again.image, n[IMAGE])) fail("%s: two equal calls left two images", what);
     if (number == 0 && c->which == DECODE && memcmp(once.samples, again.samples, n[SAMPLES])) fail("%s: of one frame two sounds", what);
 }
 
 // The first in the order of those numbers that a function may answer.
-static uint8_t first_of(unsigned faults) {
-    for (size_t k = 0; k < sizeof order; k++)
-        if (faults >> order[k] & 1) return order[k];
+static uint8_t first_of(int which, unsigned faults) {
+    for (size_t k = 0; k < sizeof order[0]; k++) {
+        uint8_t number = order[which == DECODE_FRAMES][k];
+        if (number && faults >> number & 1) return number;
+    }
     return 0;
 }
 
 // ---- a call of the demo, so far
 
-// An image from the middle of a call, and the frame that comes next; `seven` is one that is refused with 7.
+// An image from the middle of a call, and the frame that comes next, again and again up to 70 times; `seven` is one that is refused with 7.
 static struct call middle;
 static uint8_t seven[DROLKHISE_PAYLOAD];
 static int has_seven;
@@ -271,10 +307,11 @@ static void play_to_middle(void) {
         uint8_t number = make(&next);
         if (number == 7) memcpy(seven, next.payload, sizeof seven), has_seven = 1;
         if (number != 0 || accepted > 20) continue;
-        memcpy(middle.payload, next.payload, sizeof next.payload);
+        memcpy(middle.payload, next.payload, DROLKHISE_PAYLOAD);
         if (++accepted <= 20) middle = next;
     }
     if (accepted < 20) fail("the recording has too few frames that are accepted");
+    for (int k = 1; k < 70; k++) memcpy(middle.payload + k * DROLKHISE_PAYLOAD, middle.payload, DROLKHISE_PAYLOAD);
 }
 
 // ---- the modes
@@ -317,30 +354,47 @@ static void lengths(void) {
                 c.null = 1;
                 if (n == 0) expect(&c, wrong[b], "a null pointer");
             }
+    // of several frames: payloads that are those of another number of frames make a wrong room, all others 3
+    static const size_t counts[] = {1, 2, MOST};
+    for (int k = 0; k < 3; k++)
+        for (int b = 0; b < BUFFERS; b++) {
+            size_t here = counts[k] * right[b], top = b < PAYLOAD ? most[b] : b == PAYLOAD ? 1400 : here + right[b] + 60;
+            for (size_t n = 0; n <= top; n++) {
+                if (b < PAYLOAD && k != 1) continue;
+                c = middle;
+                set_frames(&c, counts[k]);
+                c.length[b] = n;
+                int others = b == PAYLOAD && n % DROLKHISE_PAYLOAD == 0 && n > 0 && n <= MOST * DROLKHISE_PAYLOAD;
+                expect(&c, n == (b < PAYLOAD ? right[b] : here) ? 0 : others ? 2 : wrong[b], "a length");
+                c.null = 1;
+                if (n == 0) expect(&c, wrong[b], "a null pointer");
+            }
+        }
     said("every length of every buffer of every function");
 }
 
 // Every fault of a buffer beside every fault of the others: 0, one short and one long, and what its bytes may have.
 static void every_fault(void) {
     // the variants of a buffer: three lengths, then its bytes' faults, then none
-    static const uint8_t bytes[BUFFERS][4] = {{4, 4, 0}, {5, 5, 0}, {6, 6, 7, 0}, {0}};
-    static const int variants[BUFFERS] = {6, 6, 7, 4};
+    static const uint8_t bytes[BUFFERS][4] = {{4, 4, 0}, {5, 5, 0}, {6, 6, 7, 0}, {0}, {0}};
+    static const int variants[BUFFERS] = {6, 6, 7, 4, 4};
     static struct call c;
     if (!has_seven) fail("the recording has no frame that is refused with 7");
-    for (int which = RESET; which <= MISSED_FRAME; which++)
-        for (int v = 0; v < 6 * 6 * 7 * 4; v++) {
-            int variant[BUFFERS] = {v % 6, v / 6 % 6, v / 36 % 7, v / 252};
+    for (int which = RESET; which < FUNCTIONS; which++)
+        for (int v = 0; v < 6 * 6 * 7 * 4 * 4; v++) {
+            int variant[BUFFERS] = {v % 6, v / 6 % 6, v / 36 % 7, v / 252 % 4, v / 1008};
             unsigned faults = 0;
             int taken = 1;
             c = middle;
             c.which = which;
+            if (which == DECODE_FRAMES) set_frames(&c, 2);
             for (int b = 0; b < BUFFERS; b++) {
                 int k = variant[b];
                 if (!(lent[which] >> b & 1)) {
                     taken &= k == variants[b] - 1;
                     continue;
                 }
-                if (k < 3) c.length[b] = k == 0 ? 0 : k == 1 ? right[b] - 1 : right[b] + 1;
+                if (k < 3) c.length[b] = k == 0 ? 0 : k == 1 ? c.length[b] - 1 : c.length[b] + 1;
                 faults |= 1u << (k < 3 ? wrong[b] : bytes[b][k - 3]);
             }
             if (!taken) continue;
@@ -352,9 +406,9 @@ static void every_fault(void) {
             if (variant[PAYLOAD] == 3) c.payload[19] |= 0x40;
             if (variant[PAYLOAD] == 4) memcpy(c.payload, seven, sizeof seven), c.payload[19] |= 0x80;
             if (variant[PAYLOAD] == 5) memcpy(c.payload, seven, sizeof seven);
-            expect(&c, first_of(faults & tried[which]), "faults together");
+            expect(&c, first_of(which, faults & tried[which]), "faults together");
             c.null = 1;
-            expect(&c, first_of(faults & tried[which]), "faults together, null pointers");
+            expect(&c, first_of(which, faults & tried[which]), "faults together, null pointers");
         }
     said("faults together");
 }
@@ -384,12 +438,75 @@ static void images(void) {
             expect(&c, whole ? 0 : 5, "a damaged image");
             c.payload[19] |= 0x80;
             expect(&c, whole ? 6 : 5, "a damaged image and a padding bit");
+            set_frames(&c, 2);
+            expect(&c, whole ? 0 : 5, "a damaged image and two frames");
+            right_lengths(&c);
             c.which = MISSED_FRAME;
             expect(&c, whole ? 0 : 5, "a damaged image");
         }
     if (broken == 0) fail("no image was broken");
     fprintf(records ? stderr : stdout, "%lu images break the state rule; ", broken);
     said("images damaged one byte at a time");
+}
+
+// The recording in every batch size, beside its single frames: each line's number and samples, and the image at the end. Between two missed frames a batch is
+// cut short. Then 64 frames, some of which are refused.
+static void batches(void) {
+    static struct call c;
+    const struct recording *r = &recordings[0];
+    uint8_t *numbers = malloc(r->count), *samples = malloc(r->count * DROLKHISE_SAMPLES), image[DROLKHISE_IMAGE];
+    unsigned long first = 0, last = 0, row = 0;
+    if (!numbers || !samples) fail("no memory");
+    for (size_t size = 0; size <= MOST; size++) {
+        memset(&c, 0, sizeof c);
+        right_lengths(&c);
+        c.which = r->heard ? RESET : COLD_START;
+        c.fill = 0x3c;
+        make(&c);
+        for (size_t at = 0, n; at < r->count; at += n) {
+            for (n = 0; n < (size ? size : 1) && at + n < r->count && r->lines[at + n].is_frame; n++) memcpy(c.payload + n * DROLKHISE_PAYLOAD, r->lines[at + n].payload, DROLKHISE_PAYLOAD);
+            right_lengths(&c);
+            if (n == 0) {
+                c.which = MISSED_FRAME, n = 1;
+                if (make(&c) != 0) fail("a missed frame is refused");
+                continue;
+            }
+            if (size == 0) {
+                c.which = DECODE;
+                numbers[at] = make(&c);
+                memcpy(samples + at * DROLKHISE_SAMPLES, c.samples, DROLKHISE_SAMPLES);
+                continue;
+            }
+            set_frames(&c, n);
+            uint8_t number = make(&c);
+            if (number != 0) fail("%zu frames were refused with %d", n, number);
+            if (memcmp(c.numbers, numbers + at, n)) fail("lines %zu on, %zu together: other numbers", at, n);
+            if (memcmp(c.samples, samples + at * DROLKHISE_SAMPLES, n * DROLKHISE_SAMPLES)) fail("lines %zu on, %zu together: other samples", at, n);
+            first += c.numbers[0] != 0;
+            last += c.numbers[n - 1] != 0;
+            for (size_t k = 1; k < n; k++) row += c.numbers[k - 1] && c.numbers[k];
+        }
+        if (size == 0) memcpy(image, c.image, sizeof image);
+        else if (memcmp(image, c.image, sizeof image)) fail("%zu together: another image", size);
+    }
+    // first, last, both, eight in a row, every second, all
+    static const uint64_t refused[] = {1, 1ull << 63, 1ull << 63 | 1, 0xff00, 0x5555555555555555, ~0ull};
+    for (int p = 0; p < 6; p++)
+        for (size_t n = 1; n <= MOST; n++) {
+            c = middle;
+            set_frames(&c, n);
+            // the highest bit is the last frame's
+            uint64_t which = n < MOST && refused[p] >> 63 ? (refused[p] & ~(1ull << 63)) | 1ull << (n - 1) : refused[p];
+            for (size_t k = 0; k < n; k++) c.payload[k * DROLKHISE_PAYLOAD + 19] |= (uint8_t)((which >> k & 1) << 7);
+            expect(&c, 0, "frames of which some are refused");
+            make(&c);
+            for (size_t k = 0; k < n; k++)
+                if ((c.numbers[k] == 6) != (which >> k & 1)) fail("frame %zu of %zu was answered %d", k, n, c.numbers[k]);
+        }
+    free(numbers);
+    free(samples);
+    fprintf(records ? stderr : stdout, "batches of 1 to 64, refused first %lu times, last %lu, in a row %lu; ", first, last, row);
+    said("as single frames");
 }
 
 static uint64_t seed;
@@ -422,7 +539,7 @@ static void calls(unsigned long count, int set_count) {
     static uint8_t held[16][DROLKHISE_IMAGE];
     size_t next[MOST_SETS] = {0};
     int set_of[16] = {0};
-    unsigned long by[4][12] = {{0}};
+    unsigned long by[FUNCTIONS][12] = {{0}};
     for (unsigned long n = 0; n < count; n++) {
         uint32_t k = below(16), kind = below(100);
         if (kind == 0) set_of[k] = (int)below((uint32_t)set_count);
@@ -439,24 +556,32 @@ static void calls(unsigned long count, int set_count) {
         // an image that is refused with 5 is refused until it is begun anew
         if (kind >= 12 && kind < 16) c.which = kind < 14 ? RESET : COLD_START;
         if (kind == 16) c.which = MISSED_FRAME;
+        memcpy(c.payload, line.payload, DROLKHISE_PAYLOAD);
+        if (kind >= 17 && kind < 22) {
+            size_t count = 1 + below(1 + below(MOST));
+            set_frames(&c, count);
+            for (size_t j = 1; j < count; j++) {
+                memcpy(c.payload + j * DROLKHISE_PAYLOAD, r->lines[next[set_of[k]]++ % r->count].payload, DROLKHISE_PAYLOAD);
+                if (below(20) == 0) damage(c.payload + j * DROLKHISE_PAYLOAD, DROLKHISE_PAYLOAD);
+            }
+        }
         if (below(33) == 0) c.spoilt_at = below(DROLKHISE_TABLES), c.spoilt = (uint8_t)(1 + below(255));
         if (below(33) == 0) {
             int b = (int)below(BUFFERS);
-            c.length[b] = below(2) ? right[b] + below(3) - 1 : below((uint32_t)right[b] + 2);
+            c.length[b] = below(2) ? c.length[b] + below(3) - 1 : below((uint32_t)c.length[b] + 2);
             if (b == PAYLOAD || b == IMAGE) c.length[b] += below(2) * below(100);
         }
         c.set = set_of[k];
         c.fill = (uint8_t)below(256);
         memset(c.image, c.fill, sizeof c.image);
         memcpy(c.image, held[k], DROLKHISE_IMAGE);
-        memcpy(c.payload, line.payload, DROLKHISE_PAYLOAD);
         uint8_t number = make(&c);
         if (number > 11) fail("%s answered %d", functions[c.which], number);
         by[c.which][number]++;
         if (c.length[IMAGE] == DROLKHISE_IMAGE) memcpy(held[k], c.image, DROLKHISE_IMAGE);
     }
     // so many calls meet every answer of every function
-    for (int which = RESET; which <= MISSED_FRAME && count >= 100000; which++)
+    for (int which = RESET; which < FUNCTIONS && count >= 100000; which++)
         for (int number = 0; number < 12; number++)
             if ((tried[which] | 1) >> number & 1 && by[which][number] == 0) fail("no %s was answered %d", functions[which], number);
     said("random calls");
@@ -466,8 +591,10 @@ static void calls(unsigned long count, int set_count) {
 
 enum { THREADS = 4, STACK = 1 << 20, PAINT = 0x5a };
 
+// A player with `together` decodes 64 frames in one call.
 struct player {
-    uint8_t *stack;
+    int together;
+    uint8_t *stack, payloads[MOST * DROLKHISE_PAYLOAD], samples[MOST * DROLKHISE_SAMPLES];
     uint64_t digest;
     pthread_t thread;
 };
@@ -483,6 +610,16 @@ static void *play(void *given) {
     const struct recording *r = &recordings[0];
     uint8_t image[DROLKHISE_IMAGE], samples[DROLKHISE_SAMPLES] = {0};
     uint64_t d = 0xcbf29ce484222325;
+    if (p->together) {
+        uint8_t numbers[MOST];
+        d = drolkhise_cold_start(sets[0], DROLKHISE_TABLES, image, sizeof image);
+        for (int times = 0; times < 20; times++) {
+            numbers[0] = drolkhise_decode_frames(sets[0], DROLKHISE_TABLES, image, sizeof image, p->payloads, MOST * DROLKHISE_PAYLOAD, p->samples, MOST * DROLKHISE_SAMPLES, numbers, MOST) ? 99 : numbers[0];
+            d = digest(digest(digest(d, numbers, MOST), image, sizeof image), p->samples, MOST * DROLKHISE_SAMPLES);
+        }
+        p->digest = d;
+        return NULL;
+    }
     for (int times = 0; times < 5; times++) {
         uint8_t number = drolkhise_reset(sets[0], DROLKHISE_TABLES, image, sizeof image);
         for (size_t k = 0; k < r->count; k++) {
@@ -495,12 +632,21 @@ static void *play(void *given) {
     return NULL;
 }
 
-static void threads(void) {
+static void lend(struct player *p, int together) {
+    const struct recording *r = &recordings[0];
+    p->together = together;
+    memset(p->samples, 0, sizeof p->samples);
+    for (size_t k = 0; k < MOST; k++) memcpy(p->payloads + k * DROLKHISE_PAYLOAD, r->lines[k % r->count].payload, DROLKHISE_PAYLOAD);
+}
+
+static void threads(int together) {
     static struct player alone, players[THREADS];
     size_t deepest = 0;
+    lend(&alone, together);
     play(&alone);
     for (int t = 0; t < THREADS; t++) {
         pthread_attr_t how;
+        lend(&players[t], together);
         players[t].stack = mmap(NULL, STACK, PROT_READ | PROT_WRITE, MAP_PRIVATE | MAP_ANONYMOUS, -1, 0);
         if (players[t].stack == MAP_FAILED) fail("no memory");
         memset(players[t].stack, PAINT, STACK);
@@ -513,7 +659,7 @@ static void threads(void) {
         while (players[t].stack[free] == PAINT) free++;
         if (STACK - free > deepest) deepest = STACK - free;
     }
-    printf("%d threads at once: as one alone; %zu bytes of stack at most, a thread's own among them\n", (int)THREADS, deepest);
+    printf("%d threads at once, %s: as one alone; %zu bytes of stack at most, a thread's own among them\n", (int)THREADS, together ? "64 frames in a call" : "a frame in a call", deepest);
 }
 
 int main(int argc, char **argv) {
@@ -534,7 +680,8 @@ int main(int argc, char **argv) {
     else if (!strcmp(mode, "lengths")) lengths();
     else if (!strcmp(mode, "order")) every_fault();
     else if (!strcmp(mode, "images")) images();
-    else if (!strcmp(mode, "threads")) threads();
+    else if (!strcmp(mode, "batches")) batches();
+    else if (!strcmp(mode, "threads")) threads(0), threads(1);
     else fail("no mode %s", mode);
     if (fflush(stdout) || ferror(stdout)) fail("cannot write");
     return 0;

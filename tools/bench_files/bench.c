@@ -1,5 +1,6 @@
 // bench TABLES RECORDING TURNS: times both decoders on the recording's accepted frames, turn by turn.
 // bench TABLES RECORDING ours|desk|rust: runs one of them once and prints the number of frames, for callgrind.
+// bench TABLES RECORDING together 1|8|64: the same with so many frames in a call.
 #include <stdint.h>
 #include <stdio.h>
 #include <stdlib.h>
@@ -12,6 +13,7 @@ extern uint8_t bench_check(const int16_t *words, size_t word_count, const uint8_
 extern uint8_t bench_run(const int16_t *words, size_t word_count, const uint8_t *bytes, size_t byte_count, const uint8_t *frames, size_t frame_bytes, int16_t *samples, size_t sample_count);
 extern uint8_t drolkhise_reset(const uint8_t *tables, size_t table_bytes, uint8_t *image, size_t image_bytes);
 extern uint8_t drolkhise_decode(const uint8_t *tables, size_t table_bytes, uint8_t *image, size_t image_bytes, const uint8_t *payload, size_t payload_bytes, uint8_t *samples, size_t sample_bytes);
+extern uint8_t bench_frames(const int16_t *words, size_t word_count, const uint8_t *bytes, size_t byte_count, const uint8_t *frames, size_t frame_bytes, size_t size, size_t n, int16_t *samples, size_t sample_count, uint8_t *numbers, size_t number_count);
 extern size_t rust_run(const uint8_t *frames, size_t count, int16_t *samples);
 
 static int16_t words[WORDS];
@@ -36,7 +38,19 @@ static uint8_t desk(const uint8_t *frames, size_t count, int16_t *samples) {
     return image[IMAGE - 1];
 }
 
-// What callgrind counts: nothing else calls these three.
+enum { SIZES = 3 };
+static const size_t in_a_call[SIZES] = {1, 8, 64};
+static int16_t rooms[64 * 320];
+static uint8_t numbers[64];
+
+// So many frames in a call, of which the count is a multiple.
+static void together(const uint8_t *frames, size_t count, size_t each) {
+    bench_frames(words, WORDS, bytes, BYTES, frames, 20 * count, 20 * each, count / each, rooms, 320 * each, numbers, each);
+}
+
+__attribute__((noinline)) void counted_together(const uint8_t *frames, size_t count, size_t each) { together(frames, count, each); }
+
+// What callgrind counts: nothing else calls these.
 __attribute__((noinline)) void counted_ours(const uint8_t *frames, size_t count, int16_t *samples) { ours(frames, count, samples); }
 
 __attribute__((noinline)) void counted_desk(const uint8_t *frames, size_t count, int16_t *samples) { desk(frames, count, samples); }
@@ -72,31 +86,40 @@ static size_t read_frames(FILE *in, uint8_t **frames) {
 
 static void compare(const uint8_t *frames, size_t count, int turns) {
     int16_t samples[3][320];
-    double best[4] = {1e9, 1e9, 1e9, 1e9};
-    unsigned refused = 0;
+    double best[4 + SIZES];
+    unsigned refused = 0, differ = 0;
+    count -= count % 64;
+    for (int k = 0; k < 4 + SIZES; k++) best[k] = 1e9;
     for (int turn = 0; turn < turns; turn++) {
-        double t0 = now();
+        double t[5 + SIZES];
+        t[0] = now();
         rust_run(frames, count, samples[1]);
-        double t1 = now();
+        t[1] = now();
         ours(frames, count, samples[0]);
-        double t2 = now();
+        t[2] = now();
         for (size_t k = 0; k < count; k++) refused |= bench_check(words, WORDS, bytes, BYTES);
-        double t3 = now();
+        t[3] = now();
         desk(frames, count, samples[2]);
-        double t4 = now();
-        double took[4] = {t1 - t0, t2 - t1, t3 - t2, t4 - t3};
-        for (int k = 0; k < 4; k++)
-            if (took[k] < best[k]) best[k] = took[k];
+        t[4] = now();
+        for (int k = 0; k < SIZES; k++) {
+            together(frames, count, in_a_call[k]);
+            t[5 + k] = now();
+            differ |= memcmp(rooms + 320 * (in_a_call[k] - 1), samples[0], sizeof samples[0]) != 0;
+        }
+        for (int k = 0; k < 4 + SIZES; k++)
+            if (t[k + 1] - t[k] < best[k]) best[k] = t[k + 1] - t[k];
     }
     double each = 1e6 / (double)count;
     printf("%zu frames: Rust %.2f us a frame; whole call %.2f, ratio %.2f; table check alone %.2f; decoding alone %.2f, ratio %.2f%s%s\n", count, best[0] * each, best[1] * each, best[1] / best[0],
            best[2] * each, (best[1] - best[2]) * each, (best[1] - best[2]) / best[0], refused ? "; THE SET IS REFUSED" : "",
            memcmp(samples[0], samples[1], sizeof samples[0]) ? "; last frames differ" : "; last frames equal");
     printf("    the call from C, on an image: %.2f us a frame, %.3f of the call on states%s\n", best[3] * each, best[3] / best[1], memcmp(samples[0], samples[2], sizeof samples[0]) ? "; last frames differ" : "; last frames equal");
+    for (int k = 0; k < SIZES; k++) printf("    %zu in a call: %.2f us a frame, ratio %.2f, of single calls %.2f\n", in_a_call[k], best[4 + k] * each, best[4 + k] / best[0], best[4 + k] / best[1]);
+    if (differ) printf("    THE LAST FRAME OF SINGLE CALLS IS ANOTHER\n");
 }
 
 int main(int argc, char **argv) {
-    if (argc != 4) return fprintf(stderr, "bench TABLES RECORDING TURNS|ours|desk|rust\n"), 2;
+    if (argc != 4 && argc != 5) return fprintf(stderr, "bench TABLES RECORDING TURNS|ours|desk|rust|together N\n"), 2;
     FILE *file = fopen(argv[1], "rb"), *recording = fopen(argv[2], "rb");
     if (!file || !recording || fread(tables, 1, TABLES, file) != TABLES) return fprintf(stderr, "bench: no table file or no recording\n"), 2;
     memcpy(words, tables, sizeof words);
@@ -111,6 +134,12 @@ int main(int argc, char **argv) {
         printf("%zu\n", count);
         return 0;
     }
+    for (int k = 0; k < SIZES; k++)
+        if (argc == 5 && (size_t)atoi(argv[4]) == in_a_call[k]) {
+            counted_together(frames, count - count % 64, in_a_call[k]);
+            printf("%zu\n", count - count % 64);
+            return 0;
+        }
     for (int part = 4; part >= 1; part /= 2) compare(frames, count / part, atoi(argv[3]));
     return 0;
 }

@@ -1,4 +1,4 @@
-//! The desk player's calls (document 02, T-07), answered by the Rust, beside the answers that tools/test_c.c met in the proved ones.
+//! The desk player's calls (document 02, T-07 and T-08), answered by the Rust, beside the answers that tools/test_c.c met in the proved ones.
 //! The tests of lengths, set and state, and what is written when, are documents 01's and 02's; the Rust has none of them.
 use super::postfilter::OutputFilter;
 use super::trace::{refusal, Memory};
@@ -84,8 +84,8 @@ fn image_of(native: &Native, mark: u8) -> Vec<u8> {
     out
 }
 
-/// The call's number; image and samples become what they are after it.
-fn call(which: u8, tables: &[u8], image: &mut Vec<u8>, payload: &[u8], samples: &mut Vec<u8>) -> u8 {
+/// The call's number; image, samples and numbers become what they are after it.
+fn call(which: u8, tables: &[u8], image: &mut Vec<u8>, payload: &[u8], samples: &mut Vec<u8>, numbers: &mut [u8]) -> u8 {
     if image.len() != IMAGE {
         return 11;
     }
@@ -107,6 +107,32 @@ fn call(which: u8, tables: &[u8], image: &mut Vec<u8>, payload: &[u8], samples: 
             *image = image_of(&Native::default(), if which == 0 { 2 } else { 0 });
         }
         return number;
+    }
+    if which == 4 {
+        let n = payload.len() / 20;
+        let number = if set(tables) == 1 {
+            1
+        } else if payload.len() % 20 != 0 || !(1..=64).contains(&n) {
+            3
+        } else if samples.len() != 640 * n || numbers.len() != n {
+            2
+        } else if set(tables) == 4 {
+            4
+        } else if !obeys(image) {
+            5
+        } else {
+            0
+        };
+        if number != 0 {
+            image[MARK] = 0;
+            return number;
+        }
+        for k in 0..n {
+            let mut room = samples[640 * k..640 * (k + 1)].to_vec();
+            numbers[k] = call(2, tables, image, &payload[20 * k..20 * (k + 1)], &mut room, &mut []);
+            samples[640 * k..640 * (k + 1)].copy_from_slice(&room);
+        }
+        return 0;
     }
     let mut number = if set(tables) == 1 {
         1
@@ -136,16 +162,16 @@ fn call(which: u8, tables: &[u8], image: &mut Vec<u8>, payload: &[u8], samples: 
     0
 }
 
-const NAMES: [&str; 4] = ["reset", "cold start", "decode", "missed frame"];
+const NAMES: [&str; 5] = ["reset", "cold start", "decode", "missed frame", "decode frames"];
 
 impl Native {
     /// Calls as test_c.c wrote them, over the table files: how many of each kind and number were the same, or the first that was not.
     pub fn calls(sets: &[Vec<u8>], input: &mut impl Read) -> Result<String, String> {
         super::trace::check_layout();
-        let mut counts = [[0u64; 12]; 4];
+        let mut counts = [[0u64; 12]; 5];
         let mut n = 0;
         loop {
-            let mut head = [0; 25];
+            let mut head = [0; 29];
             match input.read(&mut head[..1]).unwrap() {
                 0 => break,
                 _ => input.read_exact(&mut head[1..]).map_err(|_| "the calls end in the middle of one")?,
@@ -158,21 +184,21 @@ impl Native {
                 input.read_exact(&mut bytes).map_err(|_| "the calls end in the middle of one")?;
                 Ok::<_, String>(bytes)
             };
-            let (mut image, payload, image_after, samples_after) = (take(size(2))?, take(size(3))?, take(size(2))?, take(size(4))?);
-            let mut samples = vec![fill; size(4)];
+            let (mut image, payload, image_after, samples_after, numbers_after) = (take(size(2))?, take(size(3))?, take(size(2))?, take(size(4))?, take(size(5))?);
+            let (mut samples, mut numbers) = (vec![fill; size(4)], vec![fill; size(5)]);
             let mut tables = sets[set as usize].clone();
             tables.resize(size(1), 0);
             if let Some(byte) = tables.get_mut(size(0)) {
                 *byte ^= spoilt;
             }
-            let wanted = call(which, &tables, &mut image, &payload, &mut samples);
+            let wanted = call(which, &tables, &mut image, &payload, &mut samples, &mut numbers);
             let name = NAMES[which as usize];
-            let lengths = format!("{} bytes of tables, {} of an image, {} of a payload, {} for samples", size(1), size(2), size(3), size(4));
+            let lengths = format!("{} bytes of tables, {} of an image, {} of a payload, {} for samples, {} for numbers", size(1), size(2), size(3), size(4), size(5));
             let what = format!("call {n}, {name}, set {set}, {lengths}");
             if number != wanted {
                 return Err(format!("{what}: the Rust {wanted}, ours {number}"));
             }
-            for (part, rust, ours) in [("image", &image, &image_after), ("samples", &samples, &samples_after)] {
+            for (part, rust, ours) in [("image", &image, &image_after), ("samples", &samples, &samples_after), ("numbers", &numbers, &numbers_after)] {
                 if let Some(at) = (0..rust.len()).find(|&k| rust[k] != ours[k]) {
                     return Err(format!("{what}, answered {number}: byte {at} of the {part}: the Rust {}, ours {}", rust[at], ours[at]));
                 }

@@ -1,6 +1,6 @@
 // The decoder's calls over a whole recording, under C names, for tools/bench.
 ghost use mathlib.Core.Path.{_≡_};
-ghost use Prim.Native.Nat.{_/_};
+ghost use Prim.Native.Nat.{_*_, _/_, _≤_};
 ghost use lib.ListN.{length};
 ghost use Rattle.tables.specs.Tables as Tables;
 ghost use Rattle.bench_c.specs.Bench as Bench;
@@ -26,6 +26,34 @@ pub extern "C" fn bench_run(words: &[i16], bytes: &[u8], frames: &[u8], samples:
         let at = 20 * k;
         let end = at + 20;
         let a = celp::decode(words, bytes, state, &frames[at..end], samples);
+        let next = a.state;
+        state = next;
+    }
+    state.mark
+}
+
+// Parts of so many bytes, n of them, each handed to one call from the state that the one before left, over the same rooms; the mark that the last one leaves.
+#[no_mangle]
+pub extern "C" fn bench_frames(
+    words: &[i16],
+    bytes: &[u8],
+    frames: &[u8],
+    size: usize,
+    n: usize,
+    samples: &mut [i16],
+    numbers: &mut [u8],
+) -> u8
+    requires { ⌜ size * n ≤ length (now frames) ⌝ }
+    ensures mark { λ r. ⌜ r ≡ Bench.afterParts (now (words .entry)) (now (bytes .entry)) size (now (frames .entry)) (length (now (samples .entry))) (length (now (numbers .entry))) n .mark ⌝ }
+    ensures samples { λ _. ⌜ now (samples .exit) ≡ Bench.samplesParts (now (words .entry)) (now (bytes .entry)) size (now (frames .entry)) (length (now (samples .entry))) (length (now (numbers .entry))) (now (samples .entry)) n ⌝ }
+    ensures numbers { λ _. ⌜ now (numbers .exit) ≡ Bench.numbersParts (now (words .entry)) (now (bytes .entry)) size (now (frames .entry)) (length (now (samples .entry))) (length (now (numbers .entry))) (now (numbers .entry)) n ⌝ }
+{
+    let start = celp::reset(words, bytes);
+    let mut state = start.state;
+    for k in 0..n {
+        let at = size * k;
+        let end = at + size;
+        let a = celp::decode_frames(words, bytes, state, &frames[at..end], samples, numbers);
         let next = a.state;
         state = next;
     }

@@ -1,6 +1,6 @@
 -- What the set's number says of the two tests that it joins, and what is known of a frame that no test refuses.
 use Prim.Native.Nat.{ℕ}
-use mathlib.Core.Path.{_≡_, refl, sym, _∙_}
+use mathlib.Core.Path.{_≡_, refl, sym, ap, _∙_}
 use mathlib.Core.List.{List}
 use mathlib.Core.Bool.{Bool, true, false, cond, _&&_}
 use native.Mathlib.Omega.{arith}
@@ -13,14 +13,17 @@ use Rattle.sequence.specs.First.{some}
 use Rattle.tables.specs.Places.{WORDS, BYTES}
 use Rattle.tables.specs.Tables.{broken, check}
 use Rattle.tables.specs.Sound.{Sound}
+use Rattle.tables.specs.declared.Fault.{Fault}
 use Rattle.bits.specs.declared.FrameParams.{FrameParams}
 use Rattle.bits.specs.Bits.{unpack, fields, fieldsOf}
 use Rattle.bits.specs.Widths.{InWidths, within-names, fields-within}
 use Rattle.frame.specs.Frame as Frame
 use Rattle.celp.specs.declared.State.{State}
-use Rattle.celp.specs.Celp.{refusal, carried, decoded, accepted, decode, samples}
-use Rattle.celp.specs.Cases.{decode-accepted, samples-accepted}
+use Rattle.celp.specs.State.{obeys, fault}
+use Rattle.celp.specs.Celp.{refusal, refused, carried, decoded, accepted, decode, samples}
+use Rattle.celp.specs.Cases.{decode-refused, decode-accepted, samples-refused, samples-accepted}
 use Rattle.celp.specs.Accepted.{accepted-means}
+use Rattle.celp.specs.Checks.{spoilt, refusal-spoilt, spoilt-told}
 
 module _ (words : List ℤ) (bytes : List ℕ) where
   pub wrong-lengths : check words bytes ≡ 1 → (eqb (length words) WORDS && eqb (length bytes) BYTES) ≡ false
@@ -54,29 +57,34 @@ pub in-order : (p : List ℕ) → length p ≡ 20 → bitAnd (getD p 19 0) 0xc0 
 unfolding unpack
 in-order p l e = rw (eq-eqb (length p) 20 l, eq-eqb (bitAnd (getD p 19 0) 192) 0 e)
 
--- what is known where a frame is decoded, and what comes of it: n is the number that the tests gave, f the fields that were read
+-- what is known where a frame is decoded, and what comes of it: n is what its payload is refused with, f the fields that were read
 pub record Ready (words : List ℤ) (bytes : List ℕ) (s : State) (payload : List ℕ) (old : List ℤ) (f : FrameParams) : Type 0 where
-  pub set-sound : Sound words bytes
   pub first-within : InWidths (f .first)
   pub second-within : InWidths (f .second)
   pub digits-fit : Frame.digitsFit words f ≡ true
-  pub samples-long : length old ≡ 320
-  pub answered : accepted (s .mark) (Frame.decode words bytes (carried s) (s .residuals) f) ≡ decode words bytes s payload (length old)
+  pub answered : accepted (s .mark) (Frame.decode words bytes (carried s) (s .residuals) f) ≡ decode words bytes s payload 320
   pub left : Frame.samples words bytes (carried s) (s .residuals) f ≡ samples words bytes s payload old
 
-pub ready : (words : List ℤ) (bytes : List ℕ) (s : State) (payload : List ℕ) (old : List ℤ) (f : FrameParams) (n : ℕ)
-    → n ≡ refusal words bytes s payload (length old) → n ≡ 0 → f ≡ fields (unpack payload) → Ready words bytes s payload old f
-unfolding decoded
-ready words bytes s payload old f n e z q =
-    let a = accepted-means words bytes s payload (length old) (sym e ∙ z) in
-    let g : f ≡ fieldsOf payload = q ∙ in-order payload (a .payload-long) (a .no-padding) in
-    let w = within-names (fieldsOf payload) (fields-within payload) in
-    record {
-      set-sound = a .set-sound;
-      first-within = rw g (w .0);
-      second-within = rw g (w .1);
-      digits-fit = rw g (a .digits-fit);
-      samples-long = a .samples-long;
-      answered = rw g (decode-accepted words bytes s payload (length old) (sym e ∙ z));
-      left = rw g (samples-accepted words bytes s payload old (sym e ∙ z));
-    }
+module _ (words : List ℤ) (bytes : List ℕ) (s : State) (payload : List ℕ) (old : List ℤ) (k : Sound words bytes) (o : obeys s ≡ true) (p : length payload ≡ 20) (r : length old ≡ 320) (n : ℕ) (e : n ≡ spoilt words payload) where
+  pub ready : (f : FrameParams) → n ≡ 0 → f ≡ fields (unpack payload) → Ready words bytes s payload old f
+  unfolding decoded
+  ready f z q =
+      let none : refusal words bytes s payload 320 ≡ 0 = refusal-spoilt words bytes s payload 320 k o p refl ∙ sym e ∙ z in
+      let a = accepted-means words bytes s payload 320 none in
+      let g : f ≡ fieldsOf payload = q ∙ in-order payload p (a .no-padding) in
+      let w = within-names (fieldsOf payload) (fields-within payload) in
+      record {
+        first-within = rw g (w .0);
+        second-within = rw g (w .1);
+        digits-fit = rw g (a .digits-fit);
+        answered = rw g (decode-accepted words bytes s payload 320 none);
+        left = rw g (samples-accepted words bytes s payload old (refusal-spoilt words bytes s payload (length old) k o p r ∙ sym e ∙ z));
+      }
+
+  -- and what comes of one that is refused
+  pub stopped : (n ≡ 0 → ⊥) → (refused n (record { rule = 0; place = 0 }) s ≡ decode words bytes s payload 320) × (old ≡ samples words bytes s payload old)
+  stopped h =
+      let told : fault n words bytes ≡ record { rule = 0; place = 0 } = ap (λ (m : ℕ). fault m words bytes) e ∙ spoilt-told words bytes payload in (
+        ap (λ (t : Fault). refused n t s) (sym told) ∙ decode-refused words bytes s payload 320 n (e ∙ sym (refusal-spoilt words bytes s payload 320 k o p refl)) h,
+        samples-refused words bytes s payload old n (e ∙ sym (refusal-spoilt words bytes s payload (length old) k o p r)) h,
+      )

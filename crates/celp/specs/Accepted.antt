@@ -30,7 +30,7 @@ pub record Accepted (words : List ℤ) (bytes : List ℕ) (s : State) (payload :
   pub digits-fit : Frame.digitsFit words (fieldsOf payload) ≡ true
 
 -- one test that did not refuse
-passed : (b : Bool) (n x : ℕ) → cond b (suc n) x ≡ 0 → (b ≡ false) × (x ≡ 0)
+pub passed : (b : Bool) (n x : ℕ) → cond b (suc n) x ≡ 0 → (b ≡ false) × (x ≡ 0)
 passed true n x e = absurd (omega arith)
 passed false n x e = (refl, e)
 

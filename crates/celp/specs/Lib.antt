@@ -6,6 +6,9 @@ pub mod Run
 pub mod Mark
 pub mod TwoCalls
 pub mod Accepted
+pub mod Checks
+pub mod Frames
+pub mod FramesLaws
 pub mod StateRule
 pub mod Near
 pub mod Receiver

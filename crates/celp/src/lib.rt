@@ -1,12 +1,20 @@
 // The decoder's calls: reset, cold start, decode, missed frame. A state is handed in and handed back whole.
 ghost use mathlib.Core.Path.{_≡_};
+ghost use mathlib.Core.Bool.{true};
+ghost use Prim.Native.Nat.{_*_};
 ghost use lib.ListN.{length};
 ghost use Rattle.sequence.specs.All.{all};
 ghost use Rattle.floats.specs.Floats.{within};
 ghost use Rattle.tables.specs.Places.{WORDS, BYTES};
 ghost use Rattle.tables.specs.Tables.{check};
+ghost use Rattle.tables.specs.SoundWords.{SoundWords};
+ghost use Rattle.tables.specs.Sound.{Sound};
 ghost use Rattle.bits.specs.Bits as Bits;
+ghost use Rattle.spectral.specs.Kept.{Words16};
 ghost use Rattle.celp.specs.Celp as Celp;
+ghost use Rattle.celp.specs.Run.{run};
+ghost use Rattle.celp.specs.Checks as Checks;
+ghost use Rattle.celp.specs.Frames as Frames;
 ghost use Rattle.celp.specs.State.{allZero, marked, obeys, fault, lspMean, initial, started, reset, coldStart, missedFrame};
 use bits::FrameParams;
 use core::Core;
@@ -208,27 +216,16 @@ pub fn missed_frame(state: State) -> Returned
     }
 }
 
-// The refusal number, or 0: all tests, in document 01's order. The fields are the payload's, where it has any.
-fn refusal(
-    words: &[i16],
-    bytes: &[u8],
-    state: State,
-    payload: &[u8],
-    f: FrameParams,
-    room: usize,
-) -> u8
-    requires { ⌜ f ≡ Bits.fields (Bits.unpack (now payload)) ⌝ }
-    ensures { λ r. ⌜ r ≡ Celp.refusal (now (words .entry)) (now (bytes .entry)) state (now (payload .entry)) room ⌝ }
+// The refusal number of what comes before a frame is looked at, or 0: the set's lengths, the sizes of what is lent with it (2, 3 or 0), the set's rules, the state.
+fn checked(words: &[i16], bytes: &[u8], state: State, sizes: u8) -> u8
+    ensures { λ r. ⌜ r ≡ Checks.checked (now (words .entry)) (now (bytes .entry)) state sizes ⌝ }
 {
     let set = tables::check(words, bytes);
     if set == 1 {
         return 1;
     }
-    if room != 320 {
-        return 2;
-    }
-    if payload.len() != 20 {
-        return 3;
+    if sizes != 0 {
+        return sizes;
     }
     if set != 0 {
         return 4;
@@ -236,13 +233,57 @@ fn refusal(
     if !obeys(state) {
         return 5;
     }
+    0
+}
+
+// A frame's sizes.
+fn frame_sizes(payload: usize, room: usize) -> u8
+    ensures { λ r. ⌜ r ≡ Checks.frameSizes payload room ⌝ }
+{
+    if room != 320 {
+        return 2;
+    }
+    if payload != 20 {
+        return 3;
+    }
+    0
+}
+
+// Those of 1 to 64 frames laid end to end; here 3 is tried before 2.
+fn frames_sizes(payloads: usize, room: usize, answers: usize) -> u8
+    ensures { λ r. ⌜ r ≡ Frames.framesSizes payloads room answers ⌝ }
+{
+    let n = payloads / 20;
+    if payloads != 20 * n {
+        return 3;
+    }
+    if n < 1 {
+        return 3;
+    }
+    if 64 < n {
+        return 3;
+    }
+    if room != 320 * n {
+        return 2;
+    }
+    if answers != n {
+        return 2;
+    }
+    0
+}
+
+// What a payload of 20 bytes is refused with, or 0. The fields are the payload's, where it has any.
+fn spoilt(words: &[i16], payload: &[u8], f: FrameParams) -> u8
+    requires { ⌜ SoundWords (now words) ⌝ ∗ ⌜ length (now payload) ≡ 20 ⌝ ∗ ⌜ f ≡ Bits.fields (Bits.unpack (now payload)) ⌝ }
+    ensures { λ r. ⌜ r ≡ Checks.spoilt (now (words .entry)) (now (payload .entry)) ⌝ }
+{
     if payload[19] & 0xc0 != 0 {
         return 6;
     }
-    if !frame::digits_fit(words, f) {
-        return 7;
+    if frame::digits_fit(words, f) {
+        return 0;
     }
-    0
+    7
 }
 
 // What is reported of a subframe that was not decoded.
@@ -351,6 +392,28 @@ fn accepted(came: u8, d: Decoded) -> Answer
     }
 }
 
+// A frame of a set and a state that were checked: what it is answered with. The samples are written where it is accepted.
+fn answered(
+    words: &[i16],
+    bytes: &[u8],
+    state: State,
+    payload: &[u8],
+    samples: &mut [i16],
+) -> Answer
+    requires { ⌜ Sound (now words) (now bytes) ⌝ ∗ ⌜ obeys state ≡ true ⌝ ∗ ⌜ length (now payload) ≡ 20 ⌝ ∗ ⌜ length (now samples) ≡ 320 ⌝ }
+    ensures answer { λ r. ⌜ r ≡ Celp.decode (now (words .entry)) (now (bytes .entry)) state (now (payload .entry)) 320 ⌝ }
+    ensures samples { λ _. ⌜ now (samples .exit) ≡ Celp.samples (now (words .entry)) (now (bytes .entry)) state (now (payload .entry)) (now (samples .entry)) ⌝ }
+{
+    let f = bits::fields(bits::unpack(payload));
+    let why = spoilt(words, payload, f);
+    if why != 0 {
+        return refused(why, Fault { rule: 0, place: 0 }, state);
+    }
+    let residuals = state.residuals;
+    let d = frame::decode(words, bytes, carried(state), residuals, f, samples);
+    accepted(state.mark, d)
+}
+
 // A frame: what it is answered with. The samples are written where it is accepted.
 pub fn decode(
     words: &[i16],
@@ -362,12 +425,94 @@ pub fn decode(
     ensures answer { λ r. ⌜ r ≡ Celp.decode (now (words .entry)) (now (bytes .entry)) state (now (payload .entry)) (length (now (samples .entry))) ⌝ }
     ensures samples { λ _. ⌜ now (samples .exit) ≡ Celp.samples (now (words .entry)) (now (bytes .entry)) state (now (payload .entry)) (now (samples .entry)) ⌝ }
 {
-    let f = bits::fields(bits::unpack(payload));
-    let why = refusal(words, bytes, state, payload, f, samples.len());
+    let why = checked(
+        words,
+        bytes,
+        state,
+        frame_sizes(payload.len(), samples.len()),
+    );
     if why != 0 {
         return refused(why, fault(why, words, bytes), state);
     }
-    let residuals = state.residuals;
-    let d = frame::decode(words, bytes, carried(state), residuals, f, samples);
-    accepted(state.mark, d)
+    answered(words, bytes, state, payload, samples)
+}
+
+// That each word is a 16-bit number, which a word tells when it is read. Nothing is left of the loop in the compiled code.
+fn are_words(words: &[i16])
+    ensures { λ _. ⌜ Words16 (now (words .entry)) ⌝ }
+{
+    let mut i = 0;
+    while i < words.len() {
+        tables::word(words, i);
+        i += 1;
+    }
+}
+
+// Frames one after the other, each from the state that the one before left; each has its samples and its number.
+fn each(
+    words: &[i16],
+    bytes: &[u8],
+    start: State,
+    payloads: &[u8],
+    samples: &mut [i16],
+    numbers: &mut [u8],
+) -> State
+    requires { ⌜ Words16 (now words) ⌝ ∗ ⌜ Sound (now words) (now bytes) ⌝ ∗ ⌜ obeys start ≡ true ⌝ ∗ ⌜ length (now payloads) ≡ 20 * length (now numbers) ⌝ ∗ ⌜ length (now samples) ≡ 320 * length (now numbers) ⌝ }
+    ensures state { λ r. ⌜ r ≡ run (now (words .entry)) (now (bytes .entry)) start (Frames.heards (Frames.frames (now (payloads .entry)))) ⌝ }
+    ensures samples { λ _. ⌜ now (samples .exit) ≡ Frames.samples (now (words .entry)) (now (bytes .entry)) start (Frames.frames (now (payloads .entry))) (now (samples .entry)) ⌝ }
+    ensures numbers { λ _. ⌜ now (numbers .exit) ≡ Frames.numbers (now (words .entry)) (now (bytes .entry)) start (Frames.frames (now (payloads .entry))) ⌝ }
+{
+    let mut state = start;
+    let mut k = 0;
+    while k < numbers.len() {
+        let at = 20 * k;
+        let end = at + 20;
+        let from = 320 * k;
+        let to = from + 320;
+        let a = answered(
+            words,
+            bytes,
+            state,
+            &payloads[at..end],
+            &mut samples[from..to],
+        );
+        numbers[k] = a.number;
+        let next = a.state;
+        state = next;
+        k += 1;
+    }
+    state
+}
+
+// 1 to 64 frames, laid end to end: what their single calls give, one after the other, the set and the state checked once.
+pub fn decode_frames(
+    words: &[i16],
+    bytes: &[u8],
+    state: State,
+    payloads: &[u8],
+    samples: &mut [i16],
+    numbers: &mut [u8],
+) -> Returned
+    ensures returned { λ r. ⌜ r ≡ Frames.decodeFrames (now (words .entry)) (now (bytes .entry)) state (now (payloads .entry)) (length (now (samples .entry))) (length (now (numbers .entry))) ⌝ }
+    ensures samples { λ _. ⌜ now (samples .exit) ≡ Frames.framesSamples (now (words .entry)) (now (bytes .entry)) state (now (payloads .entry)) (now (samples .entry)) (length (now (numbers .entry))) ⌝ }
+    ensures numbers { λ _. ⌜ now (numbers .exit) ≡ Frames.framesNumbers (now (words .entry)) (now (bytes .entry)) state (now (payloads .entry)) (length (now (samples .entry))) (now (numbers .entry)) ⌝ }
+{
+    let sizes = frames_sizes(payloads.len(), samples.len(), numbers.len());
+    let number = checked(words, bytes, state, sizes);
+    if number != 0 {
+        let told = fault(number, words, bytes);
+        return Returned {
+            number,
+            rule: told.rule,
+            place: told.place,
+            state: marked(state, 0),
+        };
+    }
+    are_words(words);
+    Returned {
+        number: 0,
+        rule: 0,
+        place: 0,
+        state: each(words, bytes, state, payloads, samples, numbers),
+    }
 }

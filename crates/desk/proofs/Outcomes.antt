@@ -1,5 +1,5 @@
 -- The ways that each call goes: what the definitions give on each.
-use Prim.Native.Nat.{ℕ, zero, suc, _+_, _-_}
+use Prim.Native.Nat.{ℕ, zero, suc, _+_, _-_, _*_, _≤_}
 use mathlib.Core.Path.{_≡_, refl, sym, ap, _∙_}
 use mathlib.Core.List.{List, [], map, append-nil}
 use native.Mathlib.Omega.{arith}
@@ -13,10 +13,12 @@ use Rattle.celp.specs.declared.Answer.{Answer}
 use Rattle.celp.specs.declared.Returned.{Returned}
 use Rattle.celp.specs.State.{reset, coldStart, missedFrame}
 use Rattle.celp.specs.Celp as Celp
+use Rattle.celp.specs.Frames as Frames
 use Rattle.image.specs.Parts.{numbersAt, length-all}
 use Rattle.image.specs.Image.{signed, unsigned, image, state}
 use Rattle.desk.specs.Images.{refusal-small, image-started, missed-same, missed-image}
-use Rattle.desk.specs.Desk.{words, bytes, sampleBytes, zeros, barred, unmarked, begun, resetNumber, resetImage, coldNumber, coldImage, decodeNumber, decodeImage, decodeSamples, missedNumber, missedImage}
+use Rattle.desk.specs.FramesSame.{standing-long, frames-small, frames-room}
+use Rattle.desk.specs.Desk.{words, bytes, sampleBytes, zeros, barred, unmarked, begun, resetNumber, resetImage, coldNumber, coldImage, decodeNumber, decodeImage, decodeSamples, samplesIn, standing, framesNumber, framesImage, framesSamples, framesNumbers, missedNumber, missedImage}
 
 -- ---- what a call on states answers is its refusal number
 pub number-is : (words : List ℤ) (bytes : List ℕ) (s : State) (payload : List ℕ) (room : ℕ) → Celp.decode words bytes s payload room .number ≡ Celp.refusal words bytes s payload room
@@ -48,8 +50,8 @@ pub started-is : (tables : List ℕ) (ws : List ℤ) (ys : List ℕ) → ws ≡ 
 started-is tables ws ys p q call x e = e ∙ (λ i. call (p i) ((q ∙ behind tables) i))
 
 -- ---- the samples fill their room
-pub filled : (old : List ℕ) (xs : List ℤ) → length old ≡ 640 → length xs ≡ 320 → sets old 0 (sampleBytes xs) ≡ sampleBytes xs
-filled old xs h e =
+pub filled : (old : List ℕ) (xs : List ℤ) → length old ≡ 2 * length xs → sets old 0 (sampleBytes xs) ≡ sampleBytes xs
+filled old xs h =
     let m = length-map xs (unsigned 2) in
     let l = length-all 2 (map (unsigned 2) xs) in
     let k : 0 + length (sampleBytes xs) ≡ length old = omega arith in
@@ -138,3 +140,78 @@ module _ (tables b payload old : List ℕ) where
         decode-taken z i s p q =
             let n : why ≡ 0 = sym answered ∙ z in
             rw (reached, n) (refl, (p ∙ ap (λ (x : Answer). image (x .state)) e, q))
+
+-- ---- 1 to 64 frames
+pub front-long : (n m : ℕ) → n ≤ m → length (take n (replicate m (pos 0))) ≡ n
+front-long zero m h = refl
+front-long (suc n) zero h = absurd (omega arith)
+front-long (suc n) (suc m) h = ap suc (front-long n m (omega arith))
+
+pub standing-are : (old : List ℕ) (n : ℕ) (xs : List ℤ) → n ≡ samplesIn (length old) → xs ≡ map (signed 2) (numbersAt 2 n old 0) → xs ≡ standing old
+unfolding standing
+standing-are old n xs h e = e ∙ ap (λ (k : ℕ). map (signed 2) (numbersAt 2 k old 0)) h
+
+pub number-given : (words : List ℤ) (bytes : List ℕ) (s : State) (payloads : List ℕ) (room answers : ℕ) → Frames.decodeFrames words bytes s payloads room answers .number ≡ Frames.framesRefusal words bytes s payloads room answers
+unfolding Frames.decodeFrames Frames.returned
+number-given words bytes s payloads room answers = by (Frames.framesRefusal words bytes s payloads room answers)
+  where
+    by : (n : ℕ) → Frames.returned words bytes n s payloads .number ≡ n
+    by zero = refl
+    by (suc n) = refl
+
+pub numbers-kept : (words : List ℤ) (bytes : List ℕ) (s : State) (payloads : List ℕ) (room : ℕ) (told : List ℕ) → (Frames.framesRefusal words bytes s payloads room (length told) ≡ 0 → ⊥) → Frames.framesNumbers words bytes s payloads room told ≡ told
+unfolding Frames.framesNumbers Frames.numbersBy
+numbers-kept words bytes s payloads room told = by (Frames.framesRefusal words bytes s payloads room (length told))
+  where
+    by : (n : ℕ) → (n ≡ 0 → ⊥) → Frames.numbersBy words bytes n s payloads told ≡ told
+    by zero h = absurd (h refl)
+    by (suc n) h = refl
+
+module _ (tables b payloads old told : List ℕ) where
+  abbrev pub AllTold : ℕ → List ℕ → List ℕ → List ℕ → Type 0
+  AllTold n i s m = (n ≡ framesNumber tables b payloads (length old) (length told)) × ((i ≡ framesImage tables b payloads (length old) (length told)) × ((s ≡ framesSamples tables b payloads old (length told)) × (m ≡ framesNumbers tables b payloads (length old) told)))
+
+  pub frames-eleven : (length b ≡ 525 → ⊥) → AllTold 11 b old told
+  unfolding framesNumber framesImage framesSamples framesNumbers barred unmarked
+  frames-eleven h = rw (ne-eqb (length b) 525 h) (refl, (refl, (refl, refl)))
+
+  module _ (h : length b ≡ 525) where
+    pub frames-one : (length tables ≡ 15834 → ⊥) → AllTold 1 (set b 524 0) old told
+    unfolding framesNumber framesImage framesSamples framesNumbers barred unmarked
+    frames-one t = rw (eq-eqb (length b) 525 h, ne-eqb (length tables) 15834 t) (refl, (refl, (refl, refl)))
+
+    -- the call on states was given what the definitions give it
+    module _ (t : length tables ≡ 15834) (ws : List ℤ) (ys : List ℕ) (s : State) (xs : List ℤ) (p : ws ≡ words tables) (q : ys ≡ take (length tables - 11926) (drop 11926 tables)) (r : s ≡ state b) (x : xs ≡ standing old) where
+      abbrev cause : ℕ
+      cause = Frames.framesRefusal (words tables) (bytes tables) (state b) payloads (samplesIn (length old)) (length told)
+
+      comes : framesNumber tables b payloads (length old) (length told) ≡ cause
+      unfolding framesNumber barred
+      comes = rw (eq-eqb (length b) 525 h, eq-eqb (length tables) 15834 t)
+
+      module _ (a : Returned) (e : a ≡ Frames.decodeFrames ws ys s payloads (length xs) (length told)) (m : List ℕ) (f : m ≡ Frames.framesNumbers ws ys s payloads (length xs) told) where
+        given : a ≡ Frames.decodeFrames (words tables) (bytes tables) (state b) payloads (samplesIn (length old)) (length told)
+        given = e ∙ (λ i. Frames.decodeFrames (p i) ((q ∙ behind tables) i) (r i) payloads ((ap length x ∙ standing-long old) i) (length told))
+
+        told-are : m ≡ Frames.framesNumbers (words tables) (bytes tables) (state b) payloads (samplesIn (length old)) told
+        told-are = f ∙ (λ i. Frames.framesNumbers (p i) ((q ∙ behind tables) i) (r i) payloads ((ap length x ∙ standing-long old) i) told)
+
+        pub answered-cause : a .number ≡ cause
+        answered-cause = ap (λ (y : Returned). y .number) given ∙ number-given (words tables) (bytes tables) (state b) payloads (samplesIn (length old)) (length told)
+
+        pub frames-declined : (a .number ≡ 0 → ⊥) → AllTold (a .number) (set b 524 0) old m
+        unfolding framesImage framesSamples framesNumbers unmarked
+        frames-declined z =
+            let l = frames-small (words tables) (bytes tables) (state b) payloads (samplesIn (length old)) (length told) in
+            let g = answered-cause in
+            let k = numbers-kept (words tables) (bytes tables) (state b) payloads (samplesIn (length old)) told (λ n. z (g ∙ n)) in
+            rw (comes, ne-eqb cause 0 (λ n. z (g ∙ n)), ne-eqb cause 11 (λ n. omega arith)) (g, (refl, (refl, told-are ∙ k)))
+
+        pub frames-accepted : a .number ≡ 0 → (i c : List ℕ) (zs : List ℤ) → i ≡ image (a .state) → length zs ≡ length xs → zs ≡ Frames.framesSamples ws ys s payloads xs (length told) → c ≡ sets old 0 (sampleBytes zs) → AllTold 0 i c m
+        unfolding framesImage framesSamples framesNumbers
+        frames-accepted z i c zs k u v w =
+            let n : cause ≡ 0 = sym answered-cause ∙ z in
+            let o = frames-room (words tables) (bytes tables) (state b) payloads (length old) (length told) n in
+            let l : length zs ≡ samplesIn (length old) = u ∙ ap length x ∙ standing-long old in
+            let g : zs ≡ Frames.framesSamples (words tables) (bytes tables) (state b) payloads (standing old) (length told) = v ∙ (λ j. Frames.framesSamples (p j) ((q ∙ behind tables) j) (r j) payloads (x j) (length told)) in
+            rw (comes, n) (refl, (k ∙ ap (λ (y : Returned). image (y .state)) given, (w ∙ filled old zs (omega arith) ∙ ap sampleBytes g, told-are)))

@@ -11,7 +11,7 @@ use Rattle.image.specs.Bytes.{bytesOf, numberAt}
 use Rattle.image.specs.Parts.{bytesOfAll, numbersAt, cut}
 use Rattle.image.specs.Image.{signed, unsigned, layout, ofNumbers, state}
 use Rattle.sequence.specs.Table.{table}
-use Rattle.desk.specs.Desk.{zeros, sampleBytes, barred, unmarked, begun, resetNumber, resetImage, coldNumber, decodeNumber, decodeImage, decodeSamples, missedNumber, missedImage}
+use Rattle.desk.specs.Desk.{zeros, sampleBytes, barred, unmarked, begun, resetNumber, resetImage, coldNumber, decodeNumber, decodeImage, decodeSamples, samplesIn, standing, framesNumber, framesImage, framesSamples, framesNumbers, missedNumber, missedImage}
 
 -- 1,000 is 3 · 256 + 232, and -2 is 65,534
 two-samples : sampleBytes (pos 1000 ∷ negsuc 1 ∷ []) ≡ 232 ∷ 3 ∷ 254 ∷ 255 ∷ []
@@ -47,3 +47,19 @@ missed-frames = (refl, refl, refl, refl)
 a-nan : (missedNumber (zeros 388 ++ (1 ∷ 2 ∷ 192 ∷ 127 ∷ zeros 132) ++ (2 ∷ [])) ≡ 5) × (missedImage (zeros 388 ++ (1 ∷ 2 ∷ 192 ∷ 127 ∷ zeros 132) ++ (2 ∷ [])) ≡ zeros 388 ++ (1 ∷ 2 ∷ 192 ∷ 127 ∷ zeros 132) ++ (0 ∷ []))
 unfolding missedNumber missedImage unmarked missedFrame obeys state ofNumbers cut layout numbersAt table numberAt signed ofBits within
 a-nan = (refl, refl)
+
+-- ---- 1 to 64 frames
+-- 640 bytes are a frame's samples, 40,960 those of 64; a byte less or more, none, and those of 65 are no room
+rooms : (samplesIn 640 ≡ 320) × (samplesIn 40960 ≡ 20480) × (samplesIn 639 ≡ 0) × (samplesIn 641 ≡ 0) × (samplesIn 0 ≡ 0) × (samplesIn 41600 ≡ 0)
+unfolding samplesIn
+rooms = (refl, refl, refl, refl, refl, refl)
+
+-- what stood in a room of bytes 255: samples of -1
+stood : standing (replicate 640 255) ≡ replicate 320 (negsuc 0)
+unfolding standing samplesIn numbersAt table numberAt signed
+stood = refl
+
+-- with nothing lent it is 11; with an image and no tables 1, and the mark alone is written
+no-frames : (payloads samples numbers : List ℕ) → (framesNumber [] [] payloads 0 0 ≡ 11) × (framesImage [] [] payloads 0 0 ≡ []) × (framesNumber [] (replicate 525 7) payloads 640 1 ≡ 1) × (framesImage [] (replicate 525 7) payloads 640 1 ≡ replicate 524 7 ++ (0 ∷ [])) × (framesSamples [] (replicate 525 7) payloads samples 1 ≡ samples) × (framesNumbers [] (replicate 525 7) payloads 640 numbers ≡ numbers)
+unfolding framesNumber framesImage framesSamples framesNumbers barred unmarked
+no-frames payloads samples numbers = (refl, refl, refl, refl, refl, refl)

@@ -1,14 +1,15 @@
 -- The calls over lent memory: the number that each answers, and each buffer after it, by the calls on states. The tables are the table file's bytes.
-use Prim.Native.Nat.{ℕ, _*_}
+use Prim.Native.Nat.{ℕ, _*_, _/_}
 use mathlib.Core.List.{List, map}
-use mathlib.Core.Bool.{not, cond}
-use lib.Dec.{eqb}
+use mathlib.Core.Bool.{not, cond, _&&_}
+use lib.Dec.{eqb, leb}
 use lib.IntN.{ℤ, pos}
 use lib.ListN.{length, drop, set, replicate}
 use Rattle.tables.specs.Places.{WORDS}
 use Rattle.celp.specs.declared.State.{State}
 use Rattle.celp.specs.State.{initial, reset, coldStart, missedFrame}
 use Rattle.celp.specs.Celp as Celp
+use Rattle.celp.specs.Frames as Frames
 use Rattle.image.specs.Parts.{numbersAt, bytesOfAll}
 use Rattle.image.specs.Image.{SIZE, signed, unsigned, image, state}
 
@@ -75,6 +76,32 @@ decodeImage tables b payload room =
 unfoldable pub decodeSamples : List ℕ → List ℕ → List ℕ → List ℕ → List ℕ
 decodeSamples tables b payload old =
     cond (eqb (decodeNumber tables b payload (length old)) 0) (sampleBytes (Celp.samples (words tables) (bytes tables) (state b) payload (replicate 320 (pos 0)))) old
+
+-- ---- 1 to 64 frames, with room for so many bytes of samples and for so many numbers
+-- how many samples a room has: 320 for each 640 bytes, of 64 frames at most; a room of another length has none, which no frames could go to
+unfoldable pub samplesIn : ℕ → ℕ
+samplesIn room = cond (eqb room (ROOM * (room / ROOM)) && leb (room / ROOM) 64) (320 * (room / ROOM)) 0
+
+-- the samples that stand in a room
+unfoldable pub standing : List ℕ → List ℤ
+standing old = map (signed 2) (numbersAt 2 (samplesIn (length old)) old 0)
+
+unfoldable pub framesNumber : List ℕ → List ℕ → List ℕ → ℕ → ℕ → ℕ
+framesNumber tables b payloads room answers = barred tables b (Frames.framesRefusal (words tables) (bytes tables) (state b) payloads (samplesIn room) answers)
+
+unfoldable pub framesImage : List ℕ → List ℕ → List ℕ → ℕ → ℕ → List ℕ
+framesImage tables b payloads room answers =
+    cond (eqb (framesNumber tables b payloads room answers) 0) (image (Frames.decodeFrames (words tables) (bytes tables) (state b) payloads (samplesIn room) answers .state))
+    (unmarked (framesNumber tables b payloads room answers) b)
+
+-- a frame that is refused writes back what stood there
+unfoldable pub framesSamples : List ℕ → List ℕ → List ℕ → List ℕ → ℕ → List ℕ
+framesSamples tables b payloads old answers =
+    cond (eqb (framesNumber tables b payloads (length old) answers) 0) (sampleBytes (Frames.framesSamples (words tables) (bytes tables) (state b) payloads (standing old) answers)) old
+
+unfoldable pub framesNumbers : List ℕ → List ℕ → List ℕ → ℕ → List ℕ → List ℕ
+framesNumbers tables b payloads room old =
+    cond (eqb (framesNumber tables b payloads room (length old)) 0) (Frames.framesNumbers (words tables) (bytes tables) (state b) payloads (samplesIn room) old) old
 
 -- ---- a missed frame
 unfoldable pub missedNumber : List ℕ → ℕ

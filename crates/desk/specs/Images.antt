@@ -30,7 +30,7 @@ use Rattle.image.specs.Cases.{zero-image}
 use Rattle.desk.specs.Desk.{TABLES, ROOM, MARK, words, bytes, sampleBytes, zeros, barred, unmarked, begun, resetNumber, resetImage, coldNumber, coldImage, decodeNumber, decodeImage, decodeSamples, missedNumber, missedImage}
 
 -- ---- the numbers of the calls on states are below 8, so none is 11
-below : (b : Bool) (n x : ℕ) → n < 8 → x < 8 → cond b n x < 8
+pub below : (b : Bool) (n x : ℕ) → n < 8 → x < 8 → cond b n x < 8
 below true n x p q = p
 below false n x p q = q
 

@@ -1,3 +1,4 @@
 pub mod Desk
 pub mod Cases
 pub mod Images
+pub mod FramesSame

@@ -107,6 +107,76 @@ pub extern "C" fn drolkhise_decode(
     0
 }
 
+// How many samples a room of so many bytes has: 320 for each 640, of 64 frames at most; another room has none.
+fn samples_in(room: usize) -> usize
+    ensures { λ r. ⌜ r ≡ Desk.samplesIn room ⌝ }
+{
+    let n = room / ROOM;
+    if room != ROOM * n {
+        return 0;
+    }
+    if 64 < n {
+        return 0;
+    }
+    320 * n
+}
+
+// 1 to 64 frames, by the call on states; `pcm` has a place for each sample of the room.
+fn frames(
+    tables: &[u8],
+    image: &mut [u8],
+    payloads: &[u8],
+    samples: &mut [u8],
+    numbers: &mut [u8],
+    pcm: &mut [i16],
+) -> u8
+    requires { ⌜ length (now image) ≡ 525 ⌝ ∗ ⌜ length (now tables) ≡ 15834 ⌝ ∗ ⌜ length (now pcm) ≡ Desk.samplesIn (length (now samples)) ⌝ }
+    ensures number { λ r. ⌜ r ≡ Desk.framesNumber (now (tables .entry)) (now (image .entry)) (now (payloads .entry)) (length (now (samples .entry))) (length (now (numbers .entry))) ⌝ }
+    ensures image { λ _. ⌜ now (image .exit) ≡ Desk.framesImage (now (tables .entry)) (now (image .entry)) (now (payloads .entry)) (length (now (samples .entry))) (length (now (numbers .entry))) ⌝ }
+    ensures samples { λ _. ⌜ now (samples .exit) ≡ Desk.framesSamples (now (tables .entry)) (now (image .entry)) (now (payloads .entry)) (now (samples .entry)) (length (now (numbers .entry))) ⌝ }
+    ensures numbers { λ _. ⌜ now (numbers .exit) ≡ Desk.framesNumbers (now (tables .entry)) (now (image .entry)) (now (payloads .entry)) (length (now (samples .entry))) (now (numbers .entry)) ⌝ }
+{
+    let mut words = [0i16; 5963];
+    image::read_words(tables, 0, &mut words);
+    let state = image::read(image);
+    image::read_words(samples, 0, pcm); // a refused frame's are written back
+    let r = celp::decode_frames(&words, &tables[BYTES..], state, payloads, pcm, numbers);
+    if r.number != 0 {
+        image[MARK] = 0;
+        return r.number;
+    }
+    let next = r.state;
+    image::write(next, image);
+    image::put_words(pcm, samples, 0);
+    0
+}
+
+// 1 to 64 frames: what their single calls write, one after the other. A refused one leaves its samples.
+#[no_mangle]
+pub extern "C" fn drolkhise_decode_frames(
+    tables: &[u8],
+    image: &mut [u8],
+    payloads: &[u8],
+    samples: &mut [u8],
+    numbers: &mut [u8],
+) -> u8
+    ensures number { λ r. ⌜ r ≡ Desk.framesNumber (now (tables .entry)) (now (image .entry)) (now (payloads .entry)) (length (now (samples .entry))) (length (now (numbers .entry))) ⌝ }
+    ensures image { λ _. ⌜ now (image .exit) ≡ Desk.framesImage (now (tables .entry)) (now (image .entry)) (now (payloads .entry)) (length (now (samples .entry))) (length (now (numbers .entry))) ⌝ }
+    ensures samples { λ _. ⌜ now (samples .exit) ≡ Desk.framesSamples (now (tables .entry)) (now (image .entry)) (now (payloads .entry)) (now (samples .entry)) (length (now (numbers .entry))) ⌝ }
+    ensures numbers { λ _. ⌜ now (numbers .exit) ≡ Desk.framesNumbers (now (tables .entry)) (now (image .entry)) (now (payloads .entry)) (length (now (samples .entry))) (now (numbers .entry)) ⌝ }
+{
+    if image.len() != image::SIZE {
+        return NO_IMAGE;
+    }
+    if tables.len() != TABLES {
+        image[MARK] = 0;
+        return 1;
+    }
+    let n = samples_in(samples.len());
+    let mut pcm = [0i16; 20480];
+    frames(tables, image, payloads, samples, numbers, &mut pcm[..n])
+}
+
 // A frame that was lost: the mark becomes 0.
 #[no_mangle]
 pub extern "C" fn drolkhise_missed_frame(image: &mut [u8]) -> u8

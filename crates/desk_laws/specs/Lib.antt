@@ -2,3 +2,4 @@ pub mod Small
 pub mod Held
 pub mod Runs
 pub mod TableFile
+pub mod Singles

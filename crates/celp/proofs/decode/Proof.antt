@@ -1,71 +1,92 @@
--- Refused, or else the frame of the payload's fields, which an accepted payload has.
+-- Refused before the frame is looked at, or else what the frame is answered with.
 use borrow.Author.Needs.{needs}
 use denote.Ref.{now}
-use mathlib.Core.Path.{sym, ap, _∙_}
-use Rattle.bits.specs.Bits.{fields}
+use Prim.Native.Nat.{ℕ}
+use mathlib.Core.Path.{_≡_, sym, ap, _∙_}
+use mathlib.Core.List.{List}
+use mathlib.Core.Bool.{true}
+use lib.IntN.{ℤ}
+use lib.ListN.{length}
+use Rattle.tables.specs.Tables.{check}
+use Rattle.tables.specs.Sound.{Sound}
+use Rattle.celp.specs.declared.State.{State}
+use Rattle.celp.specs.State.{obeys, fault}
+use Rattle.celp.specs.Celp.{refusal, refused, decode, samples}
 use Rattle.celp.specs.Cases.{decode-refused, samples-refused}
+use Rattle.celp.specs.Checks.{checked, frameSizes, checked-passed, refusal-checked, frame-right}
 use Rattle.celp.specs.Faults.{four-set}
-use Rattle.celp.proofs.Refusals.{ready}
 use Rattle.celp.proofs.decode.Statement.{statement}
 use Rattle.celp.proofs.decode.Tie as tie
 
-unpack-requires : tie.Need-unpack-requires
-unpack-requires c κs = search needs
+-- n is the number that the checks gave, z that of the sizes
+module _ (words : List ℤ) (bytes : List ℕ) (s : State) (payload : List ℕ) (old : List ℤ) (z n : ℕ) (ez : z ≡ frameSizes (length payload) (length old)) (en : n ≡ checked words bytes s z) where
+  is-refusal : (n ≡ 0 → ⊥) → n ≡ refusal words bytes s payload (length old)
+  is-refusal h = refusal-checked words bytes s payload (length old) n (en ∙ ap (checked words bytes s) ez) h
 
-fields-requires : tie.Need-fields-requires
-fields-requires c κs = search needs
+  four : (n ≡ 0 → ⊥) → n ≡ 4 → check words bytes ≡ 4
+  four h e = four-set words bytes s payload (length old) (sym (is-refusal h) ∙ e)
 
-refusal-requires : tie.Need-refusal-requires
-refusal-requires c κs = c .fields .ensures ∙ ap fields (c .before .unpack .ensures .0)
+  stopped : (n ≡ 0 → ⊥) → (refused n (fault n words bytes) s ≡ decode words bytes s payload (length old)) × (old ≡ samples words bytes s payload old)
+  stopped h = (decode-refused words bytes s payload (length old) n (is-refusal h) h, samples-refused words bytes s payload old n (is-refusal h) h)
+
+  ready : n ≡ 0 → Sound words bytes × ((obeys s ≡ true) × ((length payload ≡ 20) × (length old ≡ 320)))
+  ready e =
+      let p = checked-passed words bytes s z (sym en ∙ e) in
+      let r = frame-right (length payload) (length old) (sym ez ∙ p .sizes-right) in
+      (p .set-sound, (p .state-obeys, (r .0, r .1)))
+
+frame-sizes-requires : tie.Need-frame-sizes-requires
+frame-sizes-requires c κs = search needs
+
+checked-requires : tie.Need-checked-requires
+checked-requires c κs = search needs
 
 fault-requires : tie.Need-fault-requires
-fault-requires c κs = λ e. four-set _ _ _ _ _ (sym (c .before .refusal .ensures) ∙ e)
+fault-requires c κs =
+    let k = c .before in
+    let z = k .before in
+    let s = z .before .before .before in
+    four (now (s .args .words)) (now (s .args .bytes)) (s .args .state) (now (s .args .payload)) (now (s .args .samples)) (z .frame-sizes .result) (k .checked .result) (z .frame-sizes .ensures) (k .checked .ensures) (c .if1 .taken)
 
 refused-requires : tie.Need-refused-requires
 refused-requires c κs = search needs
 
 returns : tie.Need-returns
 returns c =
-    let t = c .before .before in
-    let n = t .before .refusal in
-    (c .refused .ensures ∙ rw (c .before .fault .ensures) (decode-refused _ _ _ _ _ _ (n .ensures) (t .if1 .taken)), samples-refused _ _ _ _ _ _ (n .ensures) (t .if1 .taken))
+    let k = c .before .before .before in
+    let z = k .before in
+    let s = z .before .before .before in
+    let r = stopped (now (s .args .words)) (now (s .args .bytes)) (s .args .state) (now (s .args .payload)) (now (s .args .samples)) (z .frame-sizes .result) (k .checked .result) (z .frame-sizes .ensures) (k .checked .ensures) (c .before .before .if1 .taken) in
+    (c .refused .ensures ∙ rw (c .before .fault .ensures) (r .0), r .1)
 
-carried-requires : tie.Need-carried-requires
-carried-requires c κs = search needs
-
-decode-requires : tie.Need-decode-requires
-decode-requires c κs =
-    let n = c .before .before .before .before in
-    let s = n .before .before .before .before .before in
-    let r = ready (now (s .args .words)) (now (s .args .bytes)) (s .args .state) (now (s .args .payload)) (now (s .args .samples)) (n .before .fields .result) (n .refusal .result) (n .refusal .ensures) (c .before .before .before .if1 .left) (n .before .fields .ensures ∙ ap fields (n .before .before .unpack .ensures .0)) in
-    (r .set-sound, (r .first-within, (r .second-within, (r .digits-fit, r .samples-long))))
-
-accepted-requires : tie.Need-accepted-requires
-accepted-requires c κs = search needs
+answered-requires : tie.Need-answered-requires
+answered-requires c κs =
+    let k = c .before .before in
+    let z = k .before in
+    let s = z .before .before .before in
+    ready (now (s .args .words)) (now (s .args .bytes)) (s .args .state) (now (s .args .payload)) (now (s .args .samples)) (z .frame-sizes .result) (k .checked .result) (z .frame-sizes .ensures) (k .checked .ensures) (c .before .if1 .left)
 
 same-length : tie.Need-same-length
 same-length c = search needs
 
 returns-2 : tie.Need-returns-2
 returns-2 c =
-    let d = c .before .before in
-    let n = d .before .before .before .before .before in
-    let s = n .before .before .before .before .before in
-    let r = ready (now (s .args .words)) (now (s .args .bytes)) (s .args .state) (now (s .args .payload)) (now (s .args .samples)) (n .before .fields .result) (n .refusal .result) (n .refusal .ensures) (d .before .before .before .before .if1 .left) (n .before .fields .ensures ∙ ap fields (n .before .before .unpack .ensures .0)) in
-    (rw (c .accepted .ensures, d .decode .ensures .0, d .before .before .carried .ensures) (r .answered), rw (d .decode .ensures .1, d .before .before .carried .ensures) (r .left))
+    let a = c .before .answered in
+    let k = c .before .before .before .before in
+    let z = k .before in
+    let s = z .before .before .before in
+    let r = ready (now (s .args .words)) (now (s .args .bytes)) (s .args .state) (now (s .args .payload)) (now (s .args .samples)) (z .frame-sizes .result) (k .checked .result) (z .frame-sizes .ensures) (k .checked .ensures) (c .before .before .before .if1 .left) in
+    (a .ensures .0 ∙ ap (decode (now (s .args .words)) (now (s .args .bytes)) (s .args .state) (now (s .args .payload))) (sym (r .1 .1 .1)), a .ensures .1)
 
 pub decode-spec : {M : Type 1} → statement M
 decode-spec =
     tie.close
     (tie.spec
-    unpack-requires
-    fields-requires
-    refusal-requires
+    frame-sizes-requires
+    checked-requires
     fault-requires
     refused-requires
     returns
-    carried-requires
-    decode-requires
-    accepted-requires
+    answered-requires
     same-length
     returns-2)

@@ -1,5 +1,6 @@
 -- The lengths decide first; then the answer is that of the call on states.
-use mathlib.Core.Path.{_≡_, refl, ap, _∙_}
+use Prim.Native.Nat.{ℕ, _*_}
+use mathlib.Core.Path.{_≡_, refl, sym, ap, _∙_}
 use lib.IntN.{pos}
 use lib.ListN.{replicate}
 use Rattle.celp.specs.Celp as Celp
@@ -115,7 +116,7 @@ returns-5 c =
     let a = start d .args in
     let e = d .before .before .before .before .before .before .before .before .before .before .before in
     decode-taken (a .tables .now) (a .image .now) (a .payload .now) (a .samples .now) (e .if1 .left) (d .before .before .before .before .before .before .before .before .before .before .if2 .left) (d .before .before .before .before .before .before .before .before .before .if3 .left) (d .decode .result) (answered d) (w .before .before .before .if4 .left) _ _ (w .write .ensures)
-    (c .before .before .put-words .ensures ∙ filled (a .samples .now) (d .decode .last .1 .1 .1 .1 .0) (d .before .before .before .before .before .before .before .before .before .if3 .left) (d .decode .kept .1 .1 .1 .1 .0) ∙ ap sampleBytes (sampled d))
+    (c .before .before .put-words .ensures ∙ filled (a .samples .now) (d .decode .last .1 .1 .1 .1 .0) (d .before .before .before .before .before .before .before .before .before .if3 .left ∙ sym (ap (λ (n : ℕ). 2 * n) (d .decode .kept .1 .1 .1 .1 .0))) ∙ ap sampleBytes (sampled d))
 
 pub drolkhise-decode-spec : {M : Type 1} → statement M
 drolkhise-decode-spec =
