@@ -6,6 +6,7 @@ ghost use lib.ListN.{length};
 ghost use Rattle.io.specs.Counts.{Counts};
 use libc::EINTR;
 use libc::ENOENT;
+use libc::STDERR_FILENO;
 use libc::STDIN_FILENO;
 use libc::STDOUT_FILENO;
 
@@ -78,12 +79,12 @@ pub fn read_file(name: &[u8], room: &mut [u8]) -> Moved
 }
 
 // One write of the text from a place on.
-fn write_some(text: &[u8], at: usize) -> Moved
+fn write_some(fd: i32, text: &[u8], at: usize) -> Moved
     requires { ⌜ at ≤ length (now text) ⌝ }
     ensures { λ r. ⌜ at + r .n ≤ length (now (text .entry)) ⌝ }
 {
     let part = &text[at..];
-    let put = libc::write(STDOUT_FILENO, part);
+    let put = libc::write(fd, part);
     if put < 0 {
         return Moved {
             n: 0,
@@ -96,8 +97,8 @@ fn write_some(text: &[u8], at: usize) -> Moved
     }
 }
 
-// All of the text to standard output; or it failed, as it has where 2^64 - 1 writes moved less than all.
-pub fn write(text: &[u8]) -> Moved
+// All of the text to a descriptor; or it failed, as it has where 2^64 - 1 writes moved less than all.
+fn write_to(fd: i32, text: &[u8]) -> Moved
     ensures { λ r. ⌜ (r .failed ≡ false → r .n ≡ length (now (text .entry))) ⌝ }
 {
     let mut tries = u64::MAX;
@@ -109,7 +110,7 @@ pub fn write(text: &[u8]) -> Moved
                 failed: false,
             };
         }
-        let put = write_some(text, at);
+        let put = write_some(fd, text, at);
         if put.failed {
             return Moved {
                 n: at,
@@ -123,4 +124,18 @@ pub fn write(text: &[u8]) -> Moved
         n: at,
         failed: true,
     }
+}
+
+// The same to standard output.
+pub fn write(text: &[u8]) -> Moved
+    ensures { λ r. ⌜ (r .failed ≡ false → r .n ≡ length (now (text .entry))) ⌝ }
+{
+    write_to(STDOUT_FILENO, text)
+}
+
+// And to standard error.
+pub fn write_error(text: &[u8]) -> Moved
+    ensures { λ r. ⌜ (r .failed ≡ false → r .n ≡ length (now (text .entry))) ⌝ }
+{
+    write_to(STDERR_FILENO, text)
 }

@@ -1,0 +1,1 @@
+// No function: where decode answers 9 in a mended recording.
