@@ -13,6 +13,30 @@ pub struct Tally {
     /// by the mark that they were answered with
     pub marks: [u64; 3],
     pub met: [u64; MET.len()],
+    /// of subframes, for each kind of clipped samples: one sample clipped, several, all 80; and clipped in this kind alone
+    pub clipped: [[u64; 4]; 4],
+    /// subframes clipped in all four, and in none
+    pub all_four: u64,
+    pub none: u64,
+}
+
+const CLIPPED: [&str; 4] = ["prediction", "mixing", "synthesis", "output"];
+
+impl Tally {
+    pub fn clip(&mut self, counts: [usize; 4]) {
+        let kinds = counts.iter().filter(|&&n| n != 0).count();
+        self.none += (kinds == 0) as u64;
+        self.all_four += (kinds == 4) as u64;
+        for (sums, n) in self.clipped.iter_mut().zip(counts) {
+            match n {
+                0 => continue,
+                1 => sums[0] += 1,
+                80 => sums[2] += 1,
+                _ => sums[1] += 1,
+            }
+            sums[3] += (kinds == 1) as u64;
+        }
+    }
 }
 
 pub const MET: [&str; 9] = [
@@ -40,13 +64,22 @@ fn counts(names: &[String], counts: &[u64]) -> String {
 pub fn said(tally: &Tally) -> String {
     let digits: Vec<String> = (0..10).map(|n| n.to_string()).collect();
     let met: Vec<String> = MET.iter().map(|m| format!("{m}:")).collect();
+    let clipped: Vec<String> = CLIPPED
+        .iter()
+        .zip(tally.clipped)
+        .filter(|(_, n)| n.iter().any(|&n| n != 0))
+        .map(|(name, [one, some, whole, alone])| format!("{name}: 1 sample {one}, more {some}, all 80 {whole}, in it alone {alone}"))
+        .collect();
     format!(
-        "{} accepted (by mark: {}), {} refused (by number: {}); frames with [{}]",
+        "{} accepted (by mark: {}), {} refused (by number: {}); frames with [{}]; subframes clipped in [none: {}; {}; all four: {}]",
         tally.accepted,
         counts(&digits, &tally.marks),
         tally.refused.iter().sum::<u64>(),
         counts(&digits, &tally.refused),
         counts(&met, &tally.met),
+        tally.none,
+        clipped.join("; "),
+        tally.all_four,
     )
 }
 
@@ -58,6 +91,7 @@ fn add(sum: &mut [u64], more: &[u64]) {
 fn one(launch: &str, folder: &std::path::Path, kind: &str, seed: u64, frames: u64, lines: usize) -> Result<Tally, String> {
     let tables = sets::set(kind, seed);
     lent::fill(&tables);
+    counting::lent::fill(&tables);
     // some begin with `+`, some with two, of which the second is refused, and some cold
     let mut recording = b"+\n".repeat((frames % 3) as usize);
     recording.extend(Native::recording(lines, frames));
@@ -96,6 +130,9 @@ pub fn all(launch: &str, each: u64, lines: usize) -> bool {
                     add(&mut sum.refused, &tally.refused);
                     add(&mut sum.marks, &tally.marks);
                     add(&mut sum.met, &tally.met);
+                    add(sum.clipped.as_flattened_mut(), tally.clipped.as_flattened());
+                    sum.all_four += tally.all_four;
+                    sum.none += tally.none;
                 }
                 Err(place) => {
                     println!("{name}: DIFFERENT, recording {place}");

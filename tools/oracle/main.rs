@@ -58,6 +58,7 @@ fn main() {
     let words: Vec<String> = std::env::args().skip(1).collect();
     let mut out = io::BufWriter::new(io::stdout());
     lent::fill_bare();
+    counting::lent::fill_bare();
     match words.first().map(String::as_str) {
         Some("questions") => {
             let seed = words.get(2).map_or(1, |s| s.parse().expect("a seed"));
@@ -79,7 +80,9 @@ fn main() {
             }
         }
         Some(how @ ("trace" | "digest")) => {
-            lent::fill(&std::fs::read(&words[1]).expect("the table file"));
+            let tables = std::fs::read(&words[1]).expect("the table file");
+            lent::fill(&tables);
+            counting::lent::fill(&tables);
             let mut recording = Vec::new();
             io::stdin().lock().read_to_end(&mut recording).unwrap();
             if how == "trace" {

@@ -10,12 +10,13 @@
 //! lowest         speech, with cosines that give LSPs of -32,768
 //! zero_residual  speech, with cosines that stand still or rise, so that the last LPC number is 4,096 or more
 //! odd_radix      speech, with odd radices, inverses that are off, radices and inverses of any 16 bits, classes that are empty
+//! loud           speech, with interpolation taps that are all large and of one sign and pitch gains at their top, so that prediction and mixing clip
 //! two_zeros      bare, with cosines that give every frame the same LSPs, by which two residuals of a subframe are 0; one set, whatever the seed
 use crate::lent::{BYTES, WORDS};
 use crate::random::Random;
 use std::f64::consts::PI;
 
-pub const KINDS: [&str; 11] = [
+pub const KINDS: [&str; 12] = [
     "bare",
     "smooth",
     "speech",
@@ -26,6 +27,7 @@ pub const KINDS: [&str; 11] = [
     "lowest",
     "zero_residual",
     "odd_radix",
+    "loud",
     "two_zeros",
 ];
 
@@ -47,6 +49,7 @@ pub fn set(kind: &str, seed: u64) -> Vec<u8> {
         "lowest" => lowest(&mut r, &mut words),
         "zero_residual" => zero_residual(&mut r, seed, &mut words),
         "odd_radix" => odd_radix(&mut r, &mut words),
+        "loud" => loud(&mut r, &mut words, &mut floats),
         "two_zeros" => two_zeros(&mut words),
         _ => panic!("no set {kind}: one of {KINDS:?}"),
     }
@@ -54,6 +57,15 @@ pub fn set(kind: &str, seed: u64) -> Vec<u8> {
     words
         .chain(floats.iter().flat_map(|x| x.to_le_bytes()))
         .collect()
+}
+
+fn loud(r: &mut Random, words: &mut [i16], floats: &mut [f32]) {
+    for tap in &mut words[148..179] {
+        *tap = 3000 + r.below(29000) as i16;
+    }
+    for gain in &mut floats[..128] {
+        *gain = (30000 + r.below(2768)) as f32;
+    }
 }
 
 fn bare(words: &mut [i16]) {

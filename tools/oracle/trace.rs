@@ -61,6 +61,8 @@ fn fnv(bytes: &[u8]) -> u32 {
 
 pub struct Tracer {
     native: Native,
+    /// the copy that counts what `sat` changes
+    counting: counting::Decoder,
     pub mark: u8,
     pub tally: Tally,
 }
@@ -98,6 +100,7 @@ impl Tracer {
         let heard = rows(recording).next() == Some(b"+");
         let tracer = Tracer {
             native: Native::default(),
+            counting: counting::Decoder::default(),
             mark: if heard { 2 } else { 0 },
             tally: Tally::default(),
         };
@@ -159,18 +162,21 @@ impl Tracer {
         }
         let seen = self.native.decode(payload).unwrap();
         assert_eq!(&seen.pcm[..], &pcm[..], "the copy went another way");
+        let (counted, clipped) = self.counting.decode(payload);
+        assert_eq!(seen.pcm, counted, "the copy that counts went another way");
         out.line("accepted", [self.mark]);
         out.end();
         out.line("samples", seen.pcm);
         out.end();
         out.line("excitation", seen.excitation);
         out.end();
-        for (figures, (lag, lpc, innovation)) in seen.gain.iter().zip(&parts) {
+        for ((figures, (lag, lpc, innovation)), clipped) in seen.gain.iter().zip(&parts).zip(clipped) {
             out.line("figures", figures.map(f32::to_bits));
             out.line("lag", [lag.integer, lag.frac]);
             out.line("lpc", lpc);
             out.line("innovation", innovation);
             out.line("zero_residuals", [zero_residuals(lpc)]);
+            out.line("clipped", clipped);
             out.end();
         }
         // the last coefficient of each step of the recursion decides its residual
@@ -189,6 +195,9 @@ impl Tracer {
             pcm.iter().any(|&x| x == 32767 || x == -32768),
             pcm.iter().all(|&x| x == 0),
         ];
+        for counts in clipped {
+            self.tally.clip(counts);
+        }
         self.tally.accepted += 1;
         self.tally.marks[self.mark as usize] += 1;
         for (count, is) in self.tally.met.iter_mut().zip(met) {

@@ -13,6 +13,7 @@ use Rattle.tables.specs.Places.{WORDS, BYTES}
 use Rattle.tables.specs.declared.Fault.{Fault}
 use Rattle.tables.specs.Tables.{broken}
 use Rattle.bits.specs.Bits.{fieldsOf}
+use Rattle.core.specs.declared.Clipped.{Clipped}
 use Rattle.core.specs.declared.Core.{Core}
 use Rattle.frame.specs.declared.Subframe.{Subframe}
 use Rattle.frame.specs.declared.Decoded.{Decoded}
@@ -50,9 +51,13 @@ silent =
       «zero_residuals» = 0;
     }
 
+-- one of which nothing was clipped
+unfoldable pub unclipped : Clipped
+unclipped = record { prediction = 0; mixing = 0; synthesis = 0; output = 0 }
+
 -- 0 in every part but the number and what it tells, and the state with mark 0
 unfoldable pub refused : ℕ → Fault → State → Answer
-refused n f s = record { number = n; rule = f .rule; place = f .place; mark = 0; state = marked s 0; excitation = replicate 320 (pos 0); subframes = replicate 4 silent }
+refused n f s = record { number = n; rule = f .rule; place = f .place; mark = 0; state = marked s 0; excitation = replicate 320 (pos 0); subframes = replicate 4 silent; clipped = replicate 4 unclipped }
 
 -- ---- acceptance
 -- the parts of the state that a half frame carries on, and back
@@ -98,7 +103,7 @@ raised-from-0 = (refl, refl, refl)
 
 -- answered with the mark that the frame came with
 unfoldable pub accepted : ℕ → Decoded → Answer
-accepted m d = record { number = 0; rule = 0; place = 0; mark = m; state = next d (raised m); excitation = d .excitation; subframes = d .subframes }
+accepted m d = record { number = 0; rule = 0; place = 0; mark = m; state = next d (raised m); excitation = d .excitation; subframes = d .subframes; clipped = d .clipped }
 
 -- ---- the call: its answer, and the sample buffer, which a refusal leaves as it was
 unfoldable pub answer : ℕ → List ℤ → List ℕ → State → List ℕ → Answer

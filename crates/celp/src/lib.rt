@@ -17,6 +17,7 @@ ghost use Rattle.celp.specs.Checks as Checks;
 ghost use Rattle.celp.specs.Frames as Frames;
 ghost use Rattle.celp.specs.State.{allZero, marked, obeys, fault, lspMean, initial, started, reset, coldStart, missedFrame};
 use bits::FrameParams;
+use core::Clipped;
 use core::Core;
 use frame::Decoded;
 use frame::Subframe;
@@ -47,6 +48,8 @@ pub struct Answer {
     pub state: State,
     pub excitation: [i16; 320],
     pub subframes: [Subframe; 4],
+    // What was clipped in each of them.
+    pub clipped: [Clipped; 4],
 }
 
 // What reset, cold start and a missed frame give: a refusal number, or 0, with 4 the rule and the place, and a state.
@@ -300,12 +303,25 @@ fn silent() -> Subframe
     }
 }
 
+// Nothing was clipped in it.
+fn unclipped() -> Clipped
+    ensures { λ r. ⌜ r ≡ Celp.unclipped ⌝ }
+{
+    Clipped {
+        prediction: 0,
+        mixing: 0,
+        synthesis: 0,
+        output: 0,
+    }
+}
+
 // The answer to a frame that is refused.
 fn refused(number: u8, told: Fault, state: State) -> Answer
     ensures { λ r. ⌜ r ≡ Celp.refused number told state ⌝ }
 {
     let left = marked(state, 0);
     let nothing = silent();
+    let none = unclipped();
     Answer {
         number,
         rule: told.rule,
@@ -314,6 +330,7 @@ fn refused(number: u8, told: Fault, state: State) -> Answer
         state: left,
         excitation: [0; 320],
         subframes: [nothing; 4],
+        clipped: [none; 4],
     }
 }
 
@@ -381,6 +398,7 @@ fn accepted(came: u8, d: Decoded) -> Answer
     let state = next(d, after);
     let excitation = d.excitation;
     let subframes = d.subframes;
+    let clipped = d.clipped;
     Answer {
         number: 0,
         rule: 0,
@@ -389,6 +407,7 @@ fn accepted(came: u8, d: Decoded) -> Answer
         state,
         excitation,
         subframes,
+        clipped,
     }
 }
 

@@ -4,12 +4,14 @@ use mathlib.Core.List.{List}
 use Prim.Native.Nat.{ℕ}
 use lib.IntN.{ℤ}
 use Rattle.bits.specs.declared.HalfParams.{HalfParams}
-use Rattle.postfilter.specs.declared.OutputFilter.{OutputFilter}
 use Rattle.postfilter.specs.Postfilter as Postfilter
 use Rattle.core.specs.declared.Core.{Core}
+use Rattle.core.specs.declared.Counts.{Counts}
+use Rattle.core.specs.declared.Filtered.{Filtered}
 use Rattle.core.specs.declared.ParamsPair.{ParamsPair}
 use Rattle.core.specs.declared.Subframe.{Subframe}
 use Rattle.core.specs.declared.Half.{Half}
+use Rattle.core.specs.declared.Synthesised.{Synthesised}
 use Rattle.core.specs.Core as Spec
 
 -- the subframes, and the excitation before, between and behind them
@@ -51,21 +53,40 @@ module _ {words : List ℤ} {bytes : List ℕ} {core : Core} {lsp : List ℤ} {p
     unfolding Spec.samples
     samples-are e = e ∙ (λ i. Postfilter.outputs words (core .filter) (synthesis-is i))
 
-    module _ {k m : List ℤ} {g l : ℤ} {f : OutputFilter} (k-is : k ≡ Spec.kept behind) (m-is : m ≡ Spec.memoryAfter (a .trace) (b .trace) (core .memory)) (g-is : g ≡ b .«sharpen_fixed») (l-is : l ≡ b .trace .lag .integer) (f-is : f ≡ Postfilter.after words (core .filter) y) where
-      pub half-is : _≡_ {A = Half} (record { core = record { lsp = lsp; excitation = k; memory = m; «sharpen_fixed» = g; «last_half_lag» = l; filter = f; gains = b .gains }; first = a .trace; second = b .trace }) (Spec.half words bytes core lsp p)
-      unfolding Spec.half
-      half-is =
-          (λ i. record { core = record { lsp = lsp; excitation = k-is i; memory = m-is i; «sharpen_fixed» = g-is i; «last_half_lag» = l-is i; filter = f-is i; gains = b .gains }; first = a .trace; second = b .trace })
-          ∙ (λ i. record {
-            core = record {
-              lsp = lsp;
-              excitation = Spec.kept (behind-is i);
-              memory = Spec.memoryAfter (first-is i .trace) (second-is i .trace) (core .memory);
-              «sharpen_fixed» = second-is i .«sharpen_fixed»;
-              «last_half_lag» = second-is i .trace .lag .integer;
-              filter = Postfilter.after words (core .filter) (synthesis-is i);
-              gains = second-is i .gains;
-            };
-            first = first-is i .trace;
-            second = second-is i .trace;
-          })
+    -- what either filter left, and what was clipped on the way
+    left-is : {l : Synthesised} → l ≡ Spec.synthesisLeft (a .trace) (b .trace) (core .memory) → l ≡ Spec.synthesisLeft (Spec.first words bytes core lsp p .trace) (Spec.second words bytes core lsp p .trace) (core .memory)
+    left-is e = e ∙ (λ i. Spec.synthesisLeft (first-is i .trace) (second-is i .trace) (core .memory))
+
+    run-is : {f : Filtered} → f ≡ Spec.filterLeft words (core .filter) y → f ≡ Spec.filterLeft words (core .filter) (Spec.synthesis words bytes core lsp p)
+    run-is e = e ∙ (λ i. Spec.filterLeft words (core .filter) (synthesis-is i))
+
+    first-counts : {n : Counts} → n ≡ Spec.countsBy words (s .room) 154 (a .trace) → n ≡ Spec.countsBy words (Spec.room (core .excitation)) 154 (Spec.first words bytes core lsp p .trace)
+    first-counts e = e ∙ (λ i. Spec.countsBy words (s .room-is i) 154 (first-is i .trace))
+
+    second-counts : {n : Counts} → n ≡ Spec.countsBy words (s .between) 234 (b .trace) → n ≡ Spec.countsBy words (Spec.between words bytes core lsp p) 234 (Spec.second words bytes core lsp p .trace)
+    second-counts e = e ∙ (λ i. Spec.countsBy words (between-is i) 234 (second-is i .trace))
+
+    module _ {k : List ℤ} {g l : ℤ} {m : Synthesised} {f : Filtered} {v w : Counts} (k-is : k ≡ Spec.kept behind) (m-is : m ≡ Spec.synthesisLeft (a .trace) (b .trace) (core .memory)) (g-is : g ≡ b .«sharpen_fixed») (l-is : l ≡ b .trace .lag .integer) (f-is : f ≡ Spec.filterLeft words (core .filter) y) (v-is : v ≡ Spec.countsBy words (s .room) 154 (a .trace)) (w-is : w ≡ Spec.countsBy words (s .between) 234 (b .trace)) where
+      pub half-is : _≡_ {A = Half} (record {
+        core = record { lsp = lsp; excitation = k; memory = m .memory; «sharpen_fixed» = g; «last_half_lag» = l; filter = f .filter; gains = b .gains };
+        first = a .trace;
+        second = b .trace;
+        «first_clipped» = record { prediction = v .prediction; mixing = v .mixing; synthesis = m .first; output = f .first };
+        «second_clipped» = record { prediction = w .prediction; mixing = w .mixing; synthesis = m .second; output = f .second };
+      }) (Spec.half words bytes core lsp p)
+      unfolding Spec.half Spec.clippedFirst Spec.clippedSecond Spec.synthesisLeft Spec.filterLeft
+      half-is = λ i. record {
+        core = record {
+          lsp = lsp;
+          excitation = (k-is ∙ (λ j. Spec.kept (behind-is j))) i;
+          memory = left-is m-is i .memory;
+          «sharpen_fixed» = (g-is ∙ (λ j. second-is j .«sharpen_fixed»)) i;
+          «last_half_lag» = (l-is ∙ (λ j. second-is j .trace .lag .integer)) i;
+          filter = run-is f-is i .filter;
+          gains = second-is i .gains;
+        };
+        first = first-is i .trace;
+        second = second-is i .trace;
+        «first_clipped» = record { prediction = first-counts v-is i .prediction; mixing = first-counts v-is i .mixing; synthesis = left-is m-is i .first; output = run-is f-is i .first };
+        «second_clipped» = record { prediction = second-counts w-is i .prediction; mixing = second-counts w-is i .mixing; synthesis = left-is m-is i .second; output = run-is f-is i .second };
+      }

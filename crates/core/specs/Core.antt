@@ -8,8 +8,9 @@ use lib.IntN.{ℤ, pos, negsuc}
 use lib.ListN.{getD, take, drop, replicate}
 use lib.Signed.{ltZ}
 use lib.Ieee.{Float}
+use Rattle.sequence.specs.Count.{count}
 use Rattle.sequence.specs.Rewritten.{rewritten}
-use Rattle.fixed.specs.Fixed.{residue, signed, wrap, clamp, fold, sat, hi, mul, shift}
+use Rattle.fixed.specs.Fixed.{residue, signed, wrap, clamp, fold, sat, clips, hi, mul, shift}
 use Rattle.bits.specs.declared.HalfParams.{HalfParams}
 use Rattle.bits.specs.Bits as Bits
 use Rattle.lsp.specs.declared.Pair.{Pair}
@@ -23,13 +24,18 @@ use Rattle.excitation.specs.Excitation as Excitation
 use Rattle.gain.specs.declared.Decoded.{Decoded}
 use Rattle.gain.specs.Gain as Gain
 use Rattle.synth.specs.Synth as Synth
+use Rattle.postfilter.specs.declared.OutputFilter.{OutputFilter}
 use Rattle.postfilter.specs.Postfilter as Postfilter
+use Rattle.core.specs.declared.Clipped.{Clipped}
 use Rattle.core.specs.declared.Core.{Core}
+use Rattle.core.specs.declared.Counts.{Counts}
 use Rattle.core.specs.declared.SubframeParams.{SubframeParams}
 use Rattle.core.specs.declared.ParamsPair.{ParamsPair}
 use Rattle.core.specs.declared.SubframeTrace.{SubframeTrace}
 use Rattle.core.specs.declared.Subframe.{Subframe}
 use Rattle.core.specs.declared.Half.{Half}
+use Rattle.core.specs.declared.Filtered.{Filtered}
+use Rattle.core.specs.declared.Synthesised.{Synthesised}
 
 -- ---- the innovation
 -- of the two gains of sharpening, classes 1, 2 and 5 take the second
@@ -87,6 +93,27 @@ excited words exc start lag pitchGain codeGain innovation = mix pitchGain codeGa
 -- by a subframe's trace
 abbrev pub excitedBy : List ℤ → List ℤ → ℕ → SubframeTrace → List ℤ
 excitedBy words exc start t = excited words exc start (t .lag) (t .«pitch_gain») (t .«code_gain») (t .innovation)
+
+-- what is saturated for a mixed sample, and at how many of the 80 that changes it, each by the predicted sample at its place
+unfoldable pub mixedSum : ℤ → ℤ → ℤ → ℤ → ℤ
+mixedSum pitchGain codeGain a c = fold (shift (fold (mul a pitchGain) (shift (mul c codeGain) (pos 1))) (pos 1)) (pos 32768)
+
+pub mixed-sum : (pitchGain codeGain a c : ℤ) → mixed pitchGain codeGain a c ≡ hi (sat (mixedSum pitchGain codeGain a c))
+unfolding mixed mixedSum
+mixed-sum pitchGain codeGain a c = refl
+
+unfoldable pub mixClipped : ℤ → ℤ → List ℤ → ℕ → List ℤ → ℕ
+mixClipped pitchGain codeGain innovation start exc = count (λ n. clips (mixedSum pitchGain codeGain (getD exc (start + n) (pos 0)) (getD innovation n (pos 0)))) 80
+
+-- how many are clipped in prediction and in mixing; and by a subframe's trace
+unfoldable pub counts : List ℤ → List ℤ → ℕ → Lag → ℤ → ℤ → List ℤ → Counts
+counts words exc start lag pitchGain codeGain innovation = record {
+  prediction = Pitch.clipped (Pitch.interp words) exc start lag;
+  mixing = mixClipped pitchGain codeGain innovation start (Pitch.predict (Pitch.interp words) exc start lag);
+}
+
+abbrev pub countsBy : List ℤ → List ℤ → ℕ → SubframeTrace → Counts
+countsBy words exc start t = counts words exc start (t .lag) (t .«pitch_gain») (t .«code_gain») (t .innovation)
 
 -- the 80 samples from a place on
 unfoldable pub part : List ℤ → ℕ → List ℤ
@@ -155,6 +182,21 @@ synthesised first second memory =
 unfoldable pub memoryAfter : SubframeTrace → SubframeTrace → List ℤ → List ℤ
 memoryAfter first second memory = Synth.memory (second .lpc) (Synth.memory (first .lpc) memory (first .«mixed_excitation»)) (second .«mixed_excitation»)
 
+-- with how many outputs of each are clipped; and the same of the output filter, of 160 samples
+unfoldable pub synthesisLeft : SubframeTrace → SubframeTrace → List ℤ → Synthesised
+synthesisLeft first second memory = record {
+  memory = memoryAfter first second memory;
+  first = Synth.clipped (first .lpc) memory (first .«mixed_excitation»);
+  second = Synth.clipped (second .lpc) (Synth.memory (first .lpc) memory (first .«mixed_excitation»)) (second .«mixed_excitation»);
+}
+
+unfoldable pub filterLeft : List ℤ → OutputFilter → List ℤ → Filtered
+filterLeft words filter block = record {
+  filter = Postfilter.after words filter block;
+  first = Postfilter.clipped words filter (part block 0);
+  second = Postfilter.clipped words (Postfilter.after words filter (part block 0)) (part block 80);
+}
+
 -- of a core, the LSPs of the present half, and its fields
 module _ (words : List ℤ) (bytes : List ℕ) (core : Core) (lsp : List ℤ) (p : HalfParams) where
   unfoldable pub params : ParamsPair
@@ -181,6 +223,23 @@ module _ (words : List ℤ) (bytes : List ℕ) (core : Core) (lsp : List ℤ) (p
   unfoldable pub samples : List ℤ
   samples = Postfilter.outputs words (core .filter) synthesis
 
+  -- what is clipped in each subframe; an output sample belongs to the subframe of its own place
+  unfoldable pub clippedFirst : Clipped
+  clippedFirst = record {
+    prediction = countsBy words (room (core .excitation)) 154 (first .trace) .prediction;
+    mixing = countsBy words (room (core .excitation)) 154 (first .trace) .mixing;
+    synthesis = synthesisLeft (first .trace) (second .trace) (core .memory) .first;
+    output = filterLeft words (core .filter) synthesis .first;
+  }
+
+  unfoldable pub clippedSecond : Clipped
+  clippedSecond = record {
+    prediction = countsBy words between 234 (second .trace) .prediction;
+    mixing = countsBy words between 234 (second .trace) .mixing;
+    synthesis = synthesisLeft (first .trace) (second .trace) (core .memory) .second;
+    output = filterLeft words (core .filter) synthesis .second;
+  }
+
   -- and what the next half starts from, with both traces
   unfoldable pub half : Half
   half = record {
@@ -195,4 +254,6 @@ module _ (words : List ℤ) (bytes : List ℕ) (core : Core) (lsp : List ℤ) (p
     };
     first = first .trace;
     second = second .trace;
+    «first_clipped» = clippedFirst;
+    «second_clipped» = clippedSecond;
   }

@@ -3,3 +3,4 @@ pub mod Accepted
 pub mod Figures
 pub mod Kept
 pub mod Depends
+pub mod Clipped

@@ -12,6 +12,7 @@ ghost use Rattle.tables.specs.SoundWords.{SoundWords};
 ghost use Rattle.codebook.specs.Codebook as Codebook;
 ghost use Rattle.bits.specs.Widths.{InWidths};
 ghost use Rattle.synth.specs.Synth as Synth;
+ghost use Rattle.postfilter.specs.Postfilter as Postfilter;
 ghost use Rattle.core.specs.Accepted.{Usable};
 ghost use Rattle.core.specs.Core as Spec;
 use bits::HalfParams;
@@ -19,9 +20,11 @@ use bits::gain_index;
 use codebook::Innovation;
 use excitation::InterpolationGains;
 use excitation::interpolation_gains;
+use fixed::clips;
 use fixed::fold;
 use fixed::hi;
 use fixed::mul;
+use fixed::one;
 use fixed::sat;
 use fixed::shift;
 use gain::Decoded;
@@ -79,30 +82,77 @@ pub struct Subframe {
     pub gains: [f32; 4],
 }
 
+// At how many of a subframe's 80 samples saturation changed a value: in prediction, in mixing, in synthesis, in the output filter.
+pub struct Clipped {
+    pub prediction: u8,
+    pub mixing: u8,
+    pub synthesis: u8,
+    pub output: u8,
+}
+
+// The first two of these.
+struct Counts {
+    prediction: u8,
+    mixing: u8,
+}
+
+// A subframe with them.
+struct Counted {
+    subframe: Subframe,
+    counts: Counts,
+}
+
+// What the synthesis filter leaves of a subframe, and at how many samples saturation changed a value.
+struct Memory {
+    memory: [i16; 10],
+    clipped: u8,
+}
+
+// What either filter leaves of two.
+struct Synthesised {
+    memory: [i16; 10],
+    first: u8,
+    second: u8,
+}
+
+struct Filtered {
+    filter: OutputFilter,
+    first: u8,
+    second: u8,
+}
+
 // A half frame as it was decoded, and what the next one starts from.
 pub struct Half {
     pub core: Core,
     pub first: SubframeTrace,
     pub second: SubframeTrace,
+    pub first_clipped: Clipped,
+    pub second_clipped: Clipped,
 }
 
-// A sample: the predicted one by the pitch gain, and the innovation's by the code gain.
-fn mixed(pitch_gain: i16, code_gain: i16, a: i16, c: i16) -> i16
-    ensures { λ r. ⌜ r ≡ Spec.mixed «pitch_gain» «code_gain» a c ⌝ }
+// What is saturated for a sample: the predicted one by the pitch gain, and the innovation's by the code gain.
+fn mixed_sum(pitch_gain: i16, code_gain: i16, a: i16, c: i16) -> i64
+    ensures { λ r. ⌜ r ≡ Spec.mixedSum «pitch_gain» «code_gain» a c ⌝ }
 {
     let sum = fold(mul(a, pitch_gain), shift(mul(c, code_gain), 1));
-    hi(sat(fold(shift(sum, 1), 32768)))
+    fold(shift(sum, 1), 32768)
 }
 
-fn mix(pitch_gain: i16, code_gain: i16, innovation: &[i16; 80], start: usize, exc: &mut [i16])
+// The samples from place start on, each mixed with the innovation's, and how many of them saturation changed.
+fn mix(pitch_gain: i16, code_gain: i16, innovation: &[i16; 80], start: usize, exc: &mut [i16]) -> u8
     requires { ⌜ start + 80 ≤ length (now exc) ⌝ }
-    ensures { λ _. ⌜ now (exc .exit) ≡ Spec.mix «pitch_gain» «code_gain» (now (innovation .entry)) start (now (exc .entry)) ⌝ }
+    ensures samples { λ _. ⌜ now (exc .exit) ≡ Spec.mix «pitch_gain» «code_gain» (now (innovation .entry)) start (now (exc .entry)) ⌝ }
+    ensures clipped { λ r. ⌜ r ≡ Spec.mixClipped «pitch_gain» «code_gain» (now (innovation .entry)) start (now (exc .entry)) ⌝ }
 {
+    let mut clipped = 0u8;
     for n in 0..80 {
         let place = start + n;
-        let y = mixed(pitch_gain, code_gain, exc[place], innovation[n]);
+        let v = mixed_sum(pitch_gain, code_gain, exc[place], innovation[n]);
+        let y = hi(sat(v));
         exc[place] = y;
+        clipped += one(clips(v));
     }
+    clipped
 }
 
 fn clamped(pitch_gain: i16) -> i16
@@ -177,12 +227,14 @@ fn excite(
     pitch_gain: i16,
     code_gain: i16,
     innovation: &[i16; 80],
-)
+) -> Counts
     requires { ⌜ (length (now words) ≡ WORDS) × (154 ≤ start) × (start + 80 ≤ length (now exc)) × Pitch.Sane lag ⌝ }
-    ensures { λ _. ⌜ now (exc .exit) ≡ Spec.excited (now (words .entry)) (now (exc .entry)) start lag «pitch_gain» «code_gain» (now (innovation .entry)) ⌝ }
+    ensures samples { λ _. ⌜ now (exc .exit) ≡ Spec.excited (now (words .entry)) (now (exc .entry)) start lag «pitch_gain» «code_gain» (now (innovation .entry)) ⌝ }
+    ensures counts { λ r. ⌜ r ≡ Spec.counts (now (words .entry)) (now (exc .entry)) start lag «pitch_gain» «code_gain» (now (innovation .entry)) ⌝ }
 {
-    pitch::predict(words, exc, start, lag);
-    mix(pitch_gain, code_gain, innovation, start, exc);
+    let prediction = pitch::predict(words, exc, start, lag);
+    let mixing = mix(pitch_gain, code_gain, innovation, start, exc);
+    Counts { prediction, mixing }
 }
 
 fn traced(
@@ -228,10 +280,11 @@ fn decode_subframe(
     sharpen_fixed: i16,
     last_half_lag: i16,
     gains: [f32; 4],
-) -> Subframe
+) -> Counted
     requires { ⌜ Usable (now words) (now bytes) params ⌝ ∗ ⌜ 154 ≤ start ⌝ ∗ ⌜ start + 80 ≤ length (now exc) ⌝ }
-    ensures is { λ r. ⌜ r ≡ Spec.decodeSubframe (now (words .entry)) (now (bytes .entry)) (now (exc .entry)) start params «sharpen_fixed» «last_half_lag» gains ⌝ }
-    ensures room { λ r. ⌜ now (exc .exit) ≡ Spec.excitedBy (now (words .entry)) (now (exc .entry)) start (r .trace) ⌝ }
+    ensures is { λ r. ⌜ r .subframe ≡ Spec.decodeSubframe (now (words .entry)) (now (bytes .entry)) (now (exc .entry)) start params «sharpen_fixed» «last_half_lag» gains ⌝ }
+    ensures room { λ r. ⌜ now (exc .exit) ≡ Spec.excitedBy (now (words .entry)) (now (exc .entry)) start (r .subframe .trace) ⌝ }
+    ensures counts { λ r. ⌜ r .counts ≡ Spec.countsBy (now (words .entry)) (now (exc .entry)) start (r .subframe .trace) ⌝ }
 {
     let lpc = params.lpc;
     let reflection = lsp::reflection_coefficients(lpc);
@@ -240,9 +293,10 @@ fn decode_subframe(
     let code = i.code;
     let g = gain::decode(bytes, gains, params.gain_index, &code);
     let lag = params.lag;
-    excite(words, exc, start, lag, g.pitch_gain, g.code_gain, &code);
+    let counts = excite(words, exc, start, lag, g.pitch_gain, g.code_gain, &code);
     let samples = part(&exc[..], start);
-    traced(params, gains, i, g, samples, reflection.zero_residuals)
+    let subframe = traced(params, gains, i, g, samples, reflection.zero_residuals);
+    Counted { subframe, counts }
 }
 
 fn split_params(previous: [i16; 10], present: [i16; 10], params: HalfParams) -> ParamsPair
@@ -289,14 +343,18 @@ fn kept(exc: &[i16]) -> [i16; 154]
 }
 
 // A subframe through the synthesis filter.
-fn synthesise(lpc: [i16; 11], input: [i16; 80], memory: [i16; 10], samples: &mut [i16]) -> [i16; 10]
+fn synthesise(lpc: [i16; 11], input: [i16; 80], memory: [i16; 10], samples: &mut [i16]) -> Memory
     requires { ⌜ length (now samples) ≡ 80 ⌝ }
-    ensures memory { λ r. ⌜ r ≡ Synth.memory lpc memory input ⌝ }
+    ensures memory { λ r. ⌜ r .memory ≡ Synth.memory lpc memory input ⌝ }
     ensures samples { λ _. ⌜ now (samples .exit) ≡ Synth.synthesis lpc memory input ⌝ }
+    ensures clipped { λ r. ⌜ r .clipped ≡ Synth.clipped lpc memory input ⌝ }
 {
     let mut mem = memory;
-    synth::synthesis(&lpc[..], &input[..], samples, &mut mem[..]);
-    mem
+    let clipped = synth::synthesis(&lpc[..], &input[..], samples, &mut mem[..]);
+    Memory {
+        memory: mem,
+        clipped,
+    }
 }
 
 // Both subframes, one after the other.
@@ -305,17 +363,41 @@ fn synthesise_both(
     second: SubframeTrace,
     memory: [i16; 10],
     samples: &mut [i16],
-) -> [i16; 10]
+) -> Synthesised
     requires { ⌜ length (now samples) ≡ 160 ⌝ }
-    ensures memory { λ r. ⌜ r ≡ Spec.memoryAfter first second memory ⌝ }
+    ensures left { λ r. ⌜ r ≡ Spec.synthesisLeft first second memory ⌝ }
     ensures samples { λ _. ⌜ now (samples .exit) ≡ Spec.synthesised first second memory ⌝ }
 {
     let a = first.lpc;
     let x = first.mixed_excitation;
     let between = synthesise(a, x, memory, &mut samples[..80]);
+    let m = between.memory;
     let b = second.lpc;
     let y = second.mixed_excitation;
-    synthesise(b, y, between, &mut samples[80..])
+    let behind = synthesise(b, y, m, &mut samples[80..]);
+    let left = behind.memory;
+    Synthesised {
+        memory: left,
+        first: between.clipped,
+        second: behind.clipped,
+    }
+}
+
+// Both through the output filter, each by itself, so that its clipped samples are counted by themselves.
+fn filter_both(filter: OutputFilter, words: &[i16], samples: &mut [i16]) -> Filtered
+    requires { ⌜ length (now words) ≡ WORDS ⌝ ∗ ⌜ length (now samples) ≡ 160 ⌝ }
+    ensures left { λ r. ⌜ r ≡ Spec.filterLeft (now (words .entry)) filter (now (samples .entry)) ⌝ }
+    ensures samples { λ _. ⌜ now (samples .exit) ≡ Postfilter.outputs (now (words .entry)) filter (now (samples .entry)) ⌝ }
+{
+    let between = postfilter::run(filter, words, &mut samples[..80]);
+    let f = between.filter;
+    let behind = postfilter::run(f, words, &mut samples[80..]);
+    let left = behind.filter;
+    Filtered {
+        filter: left,
+        first: between.clipped,
+        second: behind.clipped,
+    }
 }
 
 // A half frame, by its LSPs and its fields.
@@ -352,35 +434,53 @@ pub fn decode(
         last_half_lag,
         past_gains,
     );
-    let first = a.trace;
-    let between = a.gains;
+    let c = a.subframe;
+    let first = c.trace;
+    let between = c.gains;
     let b = decode_subframe(
         words,
         bytes,
         &mut exc,
         234,
         two,
-        a.sharpen_fixed,
+        c.sharpen_fixed,
         last_half_lag,
         between,
     );
-    let second = b.trace;
-    let after = b.gains;
+    let d = b.subframe;
+    let second = d.trace;
+    let after = d.gains;
     let lag = second.lag;
     let left = synthesise_both(first, second, memory, samples);
-    let run = postfilter::run(filter, words, samples);
+    let run = filter_both(filter, words, samples);
     let excitation = kept(&exc[..]);
+    let mem = left.memory;
+    let state = run.filter;
+    let p = a.counts;
+    let q = b.counts;
     Half {
         core: Core {
             lsp,
             excitation,
-            memory: left,
-            sharpen_fixed: b.sharpen_fixed,
+            memory: mem,
+            sharpen_fixed: d.sharpen_fixed,
             last_half_lag: lag.integer,
-            filter: run,
+            filter: state,
             gains: after,
         },
         first,
         second,
+        first_clipped: Clipped {
+            prediction: p.prediction,
+            mixing: p.mixing,
+            synthesis: left.first,
+            output: run.first,
+        },
+        second_clipped: Clipped {
+            prediction: q.prediction,
+            mixing: q.mixing,
+            synthesis: left.second,
+            output: run.second,
+        },
     }
 }

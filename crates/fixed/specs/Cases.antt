@@ -1,9 +1,10 @@
 -- Document 01's marked cases 9, 10 and 14, and further values, computed.
 use mathlib.Core.Path.{_≡_, refl}
+use mathlib.Core.Bool.{true, false}
 use Prim.Native.Nat.{_^_, _-_, _*_}
 use lib.IntN.{pos, negsuc}
 use lib.Count.{leadingZeros}
-use Rattle.fixed.specs.Fixed.{residue, signed, wrap, clamp, acc, fold, sat, trunc32, mul32x16, shift, exp, restoringStep, restoringDivide, sizeReciprocal, signedReciprocal, normalisedReciprocal}
+use Rattle.fixed.specs.Fixed.{residue, signed, wrap, clamp, acc, fold, sat, clips, trunc32, mul32x16, shift, exp, restoringStep, restoringDivide, sizeReciprocal, signedReciprocal, normalisedReciprocal}
 use Rattle.fixed.specs.declared.Reciprocal.the-variants.{Zero, Ordinary}
 
 -- 9: the accumulator wraps, at the top and below the bottom
@@ -59,6 +60,15 @@ sat-top = refl
 sat-bottom : sat (negsuc (2 ^ 31)) ≡ negsuc (2 ^ 31 - 1)
 unfolding clamp
 sat-bottom = refl
+
+-- saturation changes a number at neither end, and the next one beyond either
+clips-top : (clips (pos (2 ^ 31 - 1)) ≡ false) × (clips (pos (2 ^ 31)) ≡ true)
+unfolding clips clamp
+clips-top = (refl, refl)
+
+clips-bottom : (clips (negsuc (2 ^ 31 - 1)) ≡ false) × (clips (negsuc (2 ^ 31)) ≡ true)
+unfolding clips clamp
+clips-bottom = (refl, refl)
 
 trunc32-top : trunc32 (pos (2 ^ 31)) ≡ negsuc (2 ^ 31 - 1)
 unfolding wrap signed residue

@@ -1,5 +1,5 @@
 -- Fixed-point arithmetic on the integers: what each operation of a 16-bit machine with a 40-bit accumulator gives.
-use mathlib.Core.Bool.{cond}
+use mathlib.Core.Bool.{Bool, cond, not}
 use Prim.Native.Nat.{ℕ, suc, _+_, _-_, _%_, _^_, _*_}
 use lib.IntN.{ℤ, pos, negsuc, negℤ, natAbs, _+ℤ_, _-ℤ_, _*ℤ_}
 use lib.Dec.{ltb, eqb}
@@ -37,6 +37,10 @@ fold sum term = acc (sum +ℤ term)
 -- saturated to 32 bits
 abbrev pub sat : ℤ → ℤ
 sat z = clamp (negsuc 2147483647) (pos 2147483647) z
+
+-- whether saturation changes z
+unfoldable pub clips : ℤ → Bool
+clips z = not (eqb (natAbs (sat z -ℤ z)) 0)
 
 -- what a store to 32 bits and a load give
 abbrev pub trunc32 : ℤ → ℤ

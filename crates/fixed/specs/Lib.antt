@@ -16,3 +16,4 @@ pub mod Products
 pub mod Halves
 pub mod Division
 pub mod Reciprocals
+pub mod Clips

@@ -5,6 +5,7 @@ ghost use Prim.Native.Nat.{ℕ, _*_, _≤_, _<_};
 ghost use lib.IntN.{pos, natAbs};
 ghost use lib.ListN.{length, getD};
 ghost use lib.Signed.{mag};
+ghost use Rattle.sequence.specs.Count as Count;
 ghost use Rattle.sequence.specs.Total.{total};
 ghost use Rattle.fixed.specs.Wrap.{REACH};
 ghost use Rattle.fixed.specs.Fixed as Fixed;
@@ -38,6 +39,24 @@ pub fn sat(v: i64) -> i64
     } else {
         v
     }
+}
+
+// Whether saturation changes v.
+pub fn clips(v: i64) -> bool
+    ensures { λ r. ⌜ r ≡ Fixed.clips v ⌝ }
+{
+    if v < -2147483648 {
+        true
+    } else {
+        2147483647 < v
+    }
+}
+
+// 1 for true: what a count goes up by.
+pub fn one(b: bool) -> u8
+    ensures { λ r. ⌜ r ≡ Count.one b ⌝ }
+{
+    if b { 1 } else { 0 }
 }
 
 // The low half of an accumulator.

@@ -12,6 +12,7 @@ use Rattle.codebook.specs.Codebook as Codebook
 use Rattle.gain.specs.Gain as Gain
 use Rattle.lsp.specs.Lsp as Lsp
 use Rattle.spectral.specs.Spectral as Spectral
+use Rattle.core.specs.declared.Clipped.{Clipped}
 use Rattle.core.specs.declared.Core.{Core}
 use Rattle.core.specs.declared.Half.{Half}
 use Rattle.core.specs.declared.SubframeTrace.{SubframeTrace}
@@ -77,6 +78,10 @@ reported bytes t = record { figures = figures bytes t; lag = t .lag .integer; fr
 unfoldable pub subframes : List ℕ → Half → Half → List Subframe
 subframes bytes x y = reported bytes (x .first) ∷ reported bytes (x .second) ∷ reported bytes (y .first) ∷ reported bytes (y .second) ∷ []
 
+-- what was clipped in them
+unfoldable pub clipped : Half → Half → List Clipped
+clipped x y = x .«first_clipped» ∷ x .«second_clipped» ∷ y .«first_clipped» ∷ y .«second_clipped» ∷ []
+
 -- and their excitation
 unfoldable pub excitation : Half → Half → List ℤ
 excitation x y = (x .first .«mixed_excitation» ++ x .second .«mixed_excitation») ++ (y .first .«mixed_excitation» ++ y .second .«mixed_excitation»)
@@ -95,6 +100,7 @@ report bytes h =
       residuals = h .second .residuals;
       excitation = excitation (h .first .half) (h .second .half);
       subframes = subframes bytes (h .first .half) (h .second .half);
+      clipped = clipped (h .first .half) (h .second .half);
     }
 
 unfoldable pub decode : List ℤ → List ℕ → Core → List Float → FrameParams → Decoded

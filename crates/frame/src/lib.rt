@@ -12,6 +12,7 @@ ghost use Rattle.frame.specs.Frame as Frame;
 ghost use Rattle.frame.specs.Named.{Named};
 use bits::FrameParams;
 use bits::HalfParams;
+use core::Clipped;
 use core::Core;
 use core::Half;
 use core::SubframeTrace;
@@ -47,6 +48,7 @@ pub struct Decoded {
     pub residuals: [f32; 30],
     pub excitation: [i16; 320],
     pub subframes: [Subframe; 4],
+    pub clipped: [Clipped; 4],
 }
 
 // Whether refusal 7 has nothing against the four code indexes.
@@ -206,6 +208,17 @@ fn subframes(bytes: &[u8], x: Half, y: Half) -> [Subframe; 4]
     ]
 }
 
+// What was clipped in them.
+fn clipped(x: Half, y: Half) -> [Clipped; 4]
+    ensures { λ r. ⌜ r ≡ Frame.clipped x y ⌝ }
+{
+    let a = x.first_clipped;
+    let b = x.second_clipped;
+    let c = y.first_clipped;
+    let d = y.second_clipped;
+    [a, b, c, d]
+}
+
 // What a frame leaves, and what is reported of it, by its halves.
 fn report(bytes: &[u8], h: Both) -> Decoded
     requires { ⌜ length (now bytes) ≡ BYTES ⌝ ∗ ⌜ Named (h .first .half) ⌝ ∗ ⌜ Named (h .second .half) ⌝ }
@@ -218,6 +231,7 @@ fn report(bytes: &[u8], h: Both) -> Decoded
     let mut excitation = [0i16; 320];
     put_excitation(x, y, &mut excitation[..]);
     let subframes = subframes(bytes, x, y);
+    let clipped = clipped(x, y);
     let core = y.core;
     let residuals = b.residuals;
     Decoded {
@@ -225,6 +239,7 @@ fn report(bytes: &[u8], h: Both) -> Decoded
         residuals,
         excitation,
         subframes,
+        clipped,
     }
 }
 

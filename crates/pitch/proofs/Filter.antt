@@ -6,13 +6,14 @@ use Prim.Native.Nat.{ℕ, suc, _+_, _-_, _≤_, _<_}
 use lib.IntN.{ℤ, pos, _+ℤ_, _*ℤ_, *ℤ-zero}
 use lib.ListN.{length, getD, take, drop, length-take, length-drop}
 use lib.Seq.{take-all, getD-take, getD-drop}
+use Rattle.sequence.specs.Count.{count, count-same}
 use Rattle.sequence.specs.Rewritten.{rewritten, rewritten-same}
 use Rattle.sequence.specs.Total.{total, total-same, total-split}
-use Rattle.fixed.specs.Fixed.{acc, fold, sat, hi, mul}
+use Rattle.fixed.specs.Fixed.{acc, fold, sat, clips, hi, mul}
 use Rattle.fixed.specs.PlainSums.{sum-backwards, sum-zeros, sum-wraps, sum-wrapped}
 use Rattle.fixed.specs.Runs as Runs
 use Rattle.pitch.specs.Pitch as Pitch
-use Rattle.pitch.specs.Window.{Windowed, term, sample, predicted, sharpened}
+use Rattle.pitch.specs.Window.{Windowed, term, sample, predicted, predictedSum, clipped, sharpened}
 
 -- ---- the window's sum is the filter's
 -- a window of taps and a phase that are known by equations
@@ -66,6 +67,10 @@ module _ (taps w signal : List ℤ) (phase from : ℕ) (d : Windowed taps phase 
       ∙ sym (sum-wrapped a (total fold (pos 0) b 10) (total _+ℤ_ (pos 0) b 10) 9 (sum-wraps b (pos 0) (pos 0) 10 refl))
 
 -- ---- so what is rewritten by a window is rewritten by the filter
+-- how many samples are clipped, by the delay
+abbrev pub clippedBy : List ℤ → ℕ → ℕ → List ℤ → ℕ → ℕ
+clippedBy taps phase start exc delay = count (λ n. clips (Pitch.predictedSum taps phase delay start n (rewritten (Pitch.predicted taps phase delay start) start exc n))) 80
+
 module _ (taps w : List ℤ) (phase : ℕ) (d : Windowed taps phase w) where
   pub predicted-is : (delay start : ℕ) (exc : List ℤ) (n : ℕ) → delay + 9 ≤ start → rewritten (predicted w delay start) start exc n ≡ rewritten (Pitch.predicted taps phase delay start) start exc n
   unfolding predicted Pitch.predicted
@@ -74,6 +79,16 @@ module _ (taps w : List ℤ) (phase : ℕ) (d : Windowed taps phase w) where
       (λ k x.
       ap (λ (z : ℤ). hi (sat (fold z (pos 32768))))
       (sample-is taps w x phase (start + k - delay - 9) d ∙ ap (Pitch.interpolatedSample taps phase x) (omega arith)))
+
+  -- and what is saturated, so that as many samples are clipped
+  pub clipped-is : (delay start : ℕ) (exc : List ℤ) → delay + 9 ≤ start → clipped w delay start exc ≡ clippedBy taps phase start exc delay
+  unfolding clipped predictedSum Pitch.predictedSum
+  clipped-is delay start exc h =
+      count-same _ _ 80
+      (λ n g.
+      let x : List ℤ = rewritten (predicted w delay start) start exc n in
+      ap (λ (z : ℤ). clips (fold z (pos 32768))) (sample-is taps w x phase (start + n - delay - 9) d ∙ ap (Pitch.interpolatedSample taps phase x) (omega arith))
+      ∙ ap (λ (t : List ℤ). clips (fold (Pitch.interpolatedSample taps phase t (start + n - delay)) (pos 32768))) (predicted-is delay start exc n h))
 
   pub sharpened-is : (first : ℕ) (gain : ℤ) (start : ℕ) (buf : List ℤ) (n : ℕ) → rewritten (sharpened w first gain) start buf n ≡ rewritten (Pitch.sharpened taps phase first gain) start buf n
   unfolding sharpened Pitch.sharpened

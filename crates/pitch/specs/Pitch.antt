@@ -1,6 +1,6 @@
 -- Lags, the adaptive codebook's prediction and the sharpening of an innovation: what pitch.rs gives.
 use mathlib.Core.Bool.{cond}
-use mathlib.Core.Path.{_≡_}
+use mathlib.Core.Path.{_≡_, refl}
 use mathlib.Core.List.{List, _++_}
 use Prim.Native.Nat.{ℕ, _+_, _-_, _*_, _/_, _%_, _≤_}
 use lib.Dec.{ltb}
@@ -8,9 +8,10 @@ use lib.ListN.{getD, take, drop, replicate}
 use lib.IntN.{ℤ, pos, negℤ, natAbs, _+ℤ_, _-ℤ_, _*ℤ_}
 use lib.Signed.{ltZ}
 use Rattle.sequence.specs.Between.{Between}
+use Rattle.sequence.specs.Count.{count}
 use Rattle.sequence.specs.Total.{total}
 use Rattle.sequence.specs.Rewritten.{rewritten}
-use Rattle.fixed.specs.Fixed.{residue, acc, fold, sat, hi, mul, mul32x16, shift}
+use Rattle.fixed.specs.Fixed.{residue, acc, fold, sat, clips, hi, mul, mul32x16, shift}
 use Rattle.tables.specs.Places.{PITCH-INTERP}
 use Rattle.pitch.specs.declared.Lag.{Lag}
 
@@ -75,6 +76,18 @@ predicted taps phase delay start n exc = hi (sat (fold (interpolatedSample taps 
 -- 80 samples from place start on: the filter reaches ten samples past the delay, so later ones come from those made here
 unfoldable pub predict : List ℤ → List ℤ → ℕ → Lag → List ℤ
 predict taps exc start l = rewritten (predicted taps (phase l) (delay l) start) start exc 80
+
+-- what is saturated for sample n, and at how many of the 80 that changes it
+unfoldable pub predictedSum : List ℤ → ℕ → ℕ → ℕ → ℕ → List ℤ → ℤ
+predictedSum taps phase delay start n exc = fold (interpolatedSample taps phase exc (start + n - delay)) (pos 32768)
+
+unfoldable pub clipped : List ℤ → List ℤ → ℕ → Lag → ℕ
+clipped taps exc start l =
+    count (λ n. clips (predictedSum taps (phase l) (delay l) start n (rewritten (predicted taps (phase l) (delay l) start) start exc n))) 80
+
+pub predicted-sum : (taps : List ℤ) (phase delay start n : ℕ) (exc : List ℤ) → predicted taps phase delay start n exc ≡ hi (sat (predictedSum taps phase delay start n exc))
+unfolding predicted predictedSum
+predicted-sum taps phase delay start n exc = refl
 
 -- ---- sharpening
 -- the first sharpened sample, for the same reach

@@ -5,8 +5,10 @@ use mathlib.Core.List.{List}
 use Prim.Native.Nat.{ℕ, _+_, _-_, _*_, _<_}
 use lib.ListN.{length, getD, take, drop}
 use lib.IntN.{ℤ, pos}
+use Rattle.sequence.specs.Count.{count}
+use Rattle.sequence.specs.Rewritten.{rewritten}
 use Rattle.sequence.specs.Total.{total}
-use Rattle.fixed.specs.Fixed.{fold, sat, hi, mul}
+use Rattle.fixed.specs.Fixed.{fold, sat, clips, hi, mul}
 use Rattle.fixed.specs.Runs.{small}
 use Rattle.pitch.specs.Pitch.{mixed}
 
@@ -32,9 +34,15 @@ term w signal from k = mul (getD signal (from + k) (pos 0)) (getD w k (pos 0))
 unfoldable pub sample : List ℤ → List ℤ → ℕ → ℤ
 sample w signal from = total fold (pos 0) (term w signal from) 24
 
--- a sample of the prediction, and one of the sharpened innovation, by a window
+-- by a window: a sample of the prediction, what is saturated for it, and at how many samples that changes it; and a sample of the sharpened innovation
 unfoldable pub predicted : List ℤ → ℕ → ℕ → ℕ → List ℤ → ℤ
 predicted w delay start n exc = hi (sat (fold (sample w exc (start + n - delay - 9)) (pos 32768)))
+
+unfoldable pub predictedSum : List ℤ → ℕ → ℕ → ℕ → List ℤ → ℤ
+predictedSum w delay start n exc = fold (sample w exc (start + n - delay - 9)) (pos 32768)
+
+unfoldable pub clipped : List ℤ → ℕ → ℕ → List ℤ → ℕ
+clipped w delay start exc = count (λ n. clips (predictedSum w delay start n (rewritten (predicted w delay start) start exc n))) 80
 
 unfoldable pub sharpened : List ℤ → ℕ → ℤ → ℕ → List ℤ → ℤ
 sharpened w first gain n buf = mixed (sample w buf (2 + n)) gain (getD buf (21 + first + n) (pos 0))

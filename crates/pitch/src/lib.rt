@@ -8,10 +8,12 @@ ghost use Rattle.tables.specs.Places.{WORDS};
 ghost use Rattle.pitch.specs.Pitch as Pitch;
 ghost use Rattle.pitch.specs.Window as Window;
 use fixed::acc;
+use fixed::clips;
 use fixed::fold;
 use fixed::fold_products;
 use fixed::hi;
 use fixed::mul32x16;
+use fixed::one;
 use fixed::sat;
 use fixed::shift;
 use fixed::small;
@@ -139,27 +141,33 @@ fn interpolated_sample(taps: &[i16], narrow: bool, signal: &[i16], from: usize) 
     fold_products(first, &taps[16..], narrow, &signal[middle..end])
 }
 
-// The 80 samples, by a window of taps.
-fn predict_from(taps: &[i16], narrow: bool, exc: &mut [i16], at: usize, delay: usize)
+// The 80 samples, by a window of taps, and how many of them saturation changed.
+fn predict_from(taps: &[i16], narrow: bool, exc: &mut [i16], at: usize, delay: usize) -> u8
     requires { ⌜ (length (now taps) ≡ 24) × (narrow ≡ Window.narrow (now taps)) × (154 ≤ at) × (at + 80 ≤ length (now exc)) × (20 ≤ delay) × (delay ≤ 144) ⌝ }
-    ensures { λ _. ⌜ now (exc .exit) ≡ rewritten (Window.predicted (now (taps .entry)) delay at) at (now (exc .entry)) 80 ⌝ }
+    ensures samples { λ _. ⌜ now (exc .exit) ≡ rewritten (Window.predicted (now (taps .entry)) delay at) at (now (exc .entry)) 80 ⌝ }
+    ensures clipped { λ r. ⌜ r ≡ Window.clipped (now (taps .entry)) delay at (now (exc .entry)) ⌝ }
 {
+    let mut clipped = 0u8;
     for n in 0..80 {
         let place = at + n;
         let value = interpolated_sample(taps, narrow, &exc[..], place - delay - 9);
-        let y = hi(sat(fold(value, 32768)));
+        let v = fold(value, 32768);
+        let y = hi(sat(v));
         exc[place] = y;
+        clipped += one(clips(v));
     }
+    clipped
 }
 
-// The adaptive codebook's 80 samples from place at on.
-pub fn predict(words: &[i16], exc: &mut [i16], at: usize, lag: Lag)
+// The adaptive codebook's 80 samples from place at on, and how many of them saturation changed.
+pub fn predict(words: &[i16], exc: &mut [i16], at: usize, lag: Lag) -> u8
     requires { ⌜ (length (now words) ≡ WORDS) × (154 ≤ at) × (at + 80 ≤ length (now exc)) × Pitch.Sane lag ⌝ }
-    ensures { λ _. ⌜ now (exc .exit) ≡ Pitch.predict (Pitch.interp (now (words .entry))) (now (exc .entry)) at lag ⌝ }
+    ensures samples { λ _. ⌜ now (exc .exit) ≡ Pitch.predict (Pitch.interp (now (words .entry))) (now (exc .entry)) at lag ⌝ }
+    ensures clipped { λ r. ⌜ r ≡ Pitch.clipped (Pitch.interp (now (words .entry))) (now (exc .entry)) at lag ⌝ }
 {
     let taps = window(interp(words), phase(lag));
     let narrow = narrow(&taps[..]);
-    predict_from(&taps[..], narrow, exc, at, delay(lag));
+    predict_from(&taps[..], narrow, exc, at, delay(lag))
 }
 
 // A sample of the innovation with its share of an earlier one.

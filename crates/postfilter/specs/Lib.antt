@@ -1,2 +1,3 @@
 pub mod Postfilter
 pub mod Unscaled
+pub mod Blocks

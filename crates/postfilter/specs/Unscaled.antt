@@ -1,17 +1,36 @@
 -- The two sections without the final scaling, which may then be done to the whole block.
-use mathlib.Core.Path.{_≡_, refl, ap}
+use native.Mathlib.Omega.{arith}
+use native.Mathlib.Numerals.{add-one}
+use mathlib.Core.Bool.{Bool, true, false, not, _||_, _&&_}
+use mathlib.Core.Path.{_≡_, refl, ap, sym, _∙_}
 use mathlib.Core.List.{List, [], _∷_, map}
-use lib.IntN.{ℤ}
+use Prim.Native.Nat.{ℕ, zero, suc, _+_, _<_}
+use lib.IntN.{ℤ, pos, negsuc}
+use lib.ListN.{length, getD, take}
+use Rattle.sequence.specs.Count.{one, count, count-none, count-more}
+use Rattle.fixed.specs.Fixed.{residue, signed, wrap, clamp, acc, fold, clips, trunc32, mul, shift}
+use Rattle.fixed.specs.Clips.{clipped-end}
+use Rattle.postfilter.specs.declared.Filtered.{Filtered}
 use Rattle.postfilter.specs.declared.OutputFilter.{OutputFilter}
+use Rattle.postfilter.specs.declared.Passed.{Passed}
+use Rattle.postfilter.specs.declared.Section.{Section}
 use Rattle.postfilter.specs.declared.Step.{Step}
 use Rattle.postfilter.specs.declared.Taps.{Taps}
 use Rattle.postfilter.specs.Postfilter as Postfilter
-use Rattle.postfilter.specs.Postfilter.{tapsOf, filterSection, scaled}
+use Rattle.postfilter.specs.Postfilter.{tapsOf, after, sectionSum, filterSection, rounded, roundedSum, rounded-sum, scaled}
 
 -- a sample through both sections: the filter is the same, and the value that of the second section
 unfoldable pub filterSample : Taps → OutputFilter → ℤ → Step
 filterSample taps filter value =
     record { filter = Postfilter.filterSample taps filter value .filter; value = filterSection taps filter 3 (filterSection taps filter 0 value .value) .value }
+
+-- a section by its sum
+unfoldable pub sectionOf : ℤ → Section
+sectionOf sum = record { value = rounded sum (pos 2); memory = trunc32 (shift sum (pos 1)) }
+
+pub section-is : (taps : Taps) (filter : OutputFilter) (s : ℕ) (value : ℤ) → filterSection taps filter s value ≡ sectionOf (sectionSum taps filter s value)
+unfolding filterSection sectionOf
+section-is taps filter s value = refl
 
 -- what comes of a block, the filter carried on
 unfoldable pub outputs : List ℤ → OutputFilter → List ℤ → List ℤ
@@ -23,3 +42,82 @@ pub outputs-scaled : (words : List ℤ) (filter : OutputFilter) (block : List �
 unfolding Postfilter.outputs Postfilter.filterSample outputs filterSample
 outputs-scaled words filter [] = refl
 outputs-scaled words filter (x ∷ xs) = ap (λ (l : List ℤ). Postfilter.filterSample (tapsOf words) filter x .value ∷ l) (outputs-scaled words (Postfilter.filterSample (tapsOf words) filter x .filter) xs)
+
+-- ---- the second section's saturation need not be looked at: what it changed is at an end, which the scaling changes too
+unfoldable pub scalingClips : ℤ → Bool
+scalingClips value = clips (roundedSum (acc (mul value (pos 19661))) (pos 1))
+
+ends-clip : (scalingClips (pos 32767) ≡ true) × (scalingClips (negsuc 32767) ≡ true)
+unfolding scalingClips roundedSum fold clips clamp mul shift wrap signed residue
+ends-clip = (refl, refl)
+
+pub second-shown : (sum : ℤ) → clips (roundedSum sum (pos 2)) ≡ true → scalingClips (rounded sum (pos 2)) ≡ true
+second-shown sum h = rw rounded-sum (clipped-end (λ (z : ℤ). scalingClips z ≡ true) (ends-clip .0) (ends-clip .1) (roundedSum sum (pos 2)) h)
+
+implied : (a b c : Bool) → (b ≡ true → c ≡ true) → (a || b || c) ≡ (a || c)
+implied true b c h = refl
+implied false true c h = sym (h refl)
+implied false false c h = refl
+
+pub by-two : (taps : Taps) (filter : OutputFilter) (value : ℤ) → Postfilter.sampleClips taps filter value ≡ (clips (roundedSum (sectionSum taps filter 0 value) (pos 2)) || scalingClips (filterSample taps filter value .value))
+unfolding Postfilter.sampleClips filterSample filterSection scalingClips
+by-two taps filter value =
+    implied (clips (roundedSum (sectionSum taps filter 0 value) (pos 2))) _ _ (second-shown (sectionSum taps filter 3 (rounded (sectionSum taps filter 0 value) (pos 2))))
+
+-- ---- so the clipped samples are those that the scaling clips, and those that the first section clips and the scaling does not
+unfoldable pub firstClips : Taps → OutputFilter → ℤ → Bool
+firstClips taps filter value = clips (roundedSum (sectionSum taps filter 0 value) (pos 2)) && not (scalingClips (filterSample taps filter value .value))
+
+unfoldable pub passed : Taps → OutputFilter → ℤ → Passed
+passed taps filter value = record { step = filterSample taps filter value; clips = firstClips taps filter value }
+
+unfoldable pub firstClipped : List ℤ → OutputFilter → List ℤ → ℕ
+firstClipped words filter block = count (λ n. firstClips (tapsOf words) (after words filter (take n block)) (getD block n (pos 0))) (length block)
+
+unfoldable pub scalingClipped : List ℤ → ℕ
+scalingClipped block = count (λ n. scalingClips (getD block n (pos 0))) (length block)
+
+-- what a block leaves without the scaling
+unfoldable pub filtered : List ℤ → OutputFilter → List ℤ → Filtered
+filtered words filter block = record { filter = after words filter block; clipped = firstClipped words filter block }
+
+pub length-unscaled : (words : List ℤ) (filter : OutputFilter) (block : List ℤ) → length (outputs words filter block) ≡ length block
+unfolding outputs
+length-unscaled words filter [] = refl
+length-unscaled words filter (x ∷ xs) = ap suc (length-unscaled words (filterSample (tapsOf words) filter x .filter) xs)
+
+-- output n, by the filter at sample n
+output-at : (words : List ℤ) (filter : OutputFilter) (block : List ℤ) (n : ℕ) → n < length block → getD (outputs words filter block) n (pos 0) ≡ filterSample (tapsOf words) (after words filter (take n block)) (getD block n (pos 0)) .value
+unfolding outputs after filterSample
+output-at words filter [] n h = absurd (omega arith)
+output-at words filter (x ∷ xs) zero h = refl
+output-at words filter (x ∷ xs) (suc n) h = output-at words (filterSample (tapsOf words) filter x .filter) xs n (omega arith)
+
+-- of three tests, where one's passes are the other two's together
+count-sum : (f g h : ℕ → Bool) (n : ℕ) → ((k : ℕ) → k < n → one (f k) ≡ one (g k) + one (h k)) → count f n ≡ count g n + count h n
+count-sum f g h zero e = omega (arith, count-none f, count-none g, count-none h)
+count-sum f g h (suc n) e =
+    let i = count-sum f g h n (λ k p. e k (omega arith)) in
+    let z = e n (omega arith) in
+    ap (count f) (sym (add-one n)) ∙ omega (arith, count-more f n, count-more g n, count-more h n, ap (count g) (add-one n), ap (count h) (add-one n))
+
+split : (a c : Bool) → one (a || c) ≡ one (a && not c) + one c
+split true true = refl
+split true false = refl
+split false true = refl
+split false false = refl
+
+pub clipped-parts : (words : List ℤ) (filter : OutputFilter) (block : List ℤ) → Postfilter.clipped words filter block ≡ firstClipped words filter block + scalingClipped (outputs words filter block)
+unfolding Postfilter.clipped firstClipped scalingClipped firstClips
+clipped-parts words filter block =
+    count-sum _ _ _ (length block) by
+    ∙ ap (λ (k : ℕ). firstClipped words filter block + count (λ n. scalingClips (getD (outputs words filter block) n (pos 0))) k) (sym (length-unscaled words filter block))
+  where
+    state : ℕ → OutputFilter
+    state n = after words filter (take n block)
+
+    by : (n : ℕ) → n < length block → one (Postfilter.sampleClips (tapsOf words) (state n) (getD block n (pos 0))) ≡ one (firstClips (tapsOf words) (state n) (getD block n (pos 0))) + one (scalingClips (getD (outputs words filter block) n (pos 0)))
+    by n h =
+        ap one (by-two (tapsOf words) (state n) (getD block n (pos 0)))
+        ∙ split (clips (roundedSum (sectionSum (tapsOf words) (state n) 0 (getD block n (pos 0))) (pos 2))) (scalingClips (filterSample (tapsOf words) (state n) (getD block n (pos 0)) .value))
+        ∙ ap (λ (z : ℤ). one (firstClips (tapsOf words) (state n) (getD block n (pos 0))) + one (scalingClips z)) (sym (output-at words filter block n h))

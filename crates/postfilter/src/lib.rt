@@ -1,15 +1,19 @@
 // Two cascaded output reconstruction sections.
 ghost use mathlib.Core.Path.{_≡_};
 ghost use Prim.Native.Nat.{_≤_};
+ghost use mathlib.Core.Bool.{_&&_, not};
 ghost use mathlib.Core.List.{map};
+ghost use lib.IntN.{pos};
 ghost use lib.ListN.{length};
 ghost use Rattle.tables.specs.Places.{WORDS};
 ghost use Rattle.fixed.specs.Fixed as Fixed;
 ghost use Rattle.postfilter.specs.Postfilter as Postfilter;
 ghost use Rattle.postfilter.specs.Unscaled as Unscaled;
+use fixed::clips;
 use fixed::fold;
 use fixed::hi;
 use fixed::mul;
+use fixed::one;
 use fixed::sat;
 use fixed::shift;
 use fixed::trunc32;
@@ -41,6 +45,18 @@ struct Section {
 struct Step {
     filter: OutputFilter,
     value: i16,
+}
+
+// That, and whether saturation changes a value in the first section and not in the scaling to come.
+struct Passed {
+    step: Step,
+    clips: bool,
+}
+
+// What a block leaves: the filter, and at how many samples saturation changed a value.
+pub struct Filtered {
+    pub filter: OutputFilter,
+    pub clipped: u8,
 }
 
 // Final output scaling, Q15.
@@ -114,17 +130,32 @@ fn rounded(sum: i64, up: i32) -> i16
     hi(sat(fold(shift(sum, up), 32768)))
 }
 
-// Advance one of the two sections, whose delay lines begin at place `at`.
-fn filter_section(taps: Taps, filter: OutputFilter, at: usize, value: i16) -> Section
-    requires { ⌜ «at» ≤ 3 ⌝ }
-    ensures { λ r. ⌜ r ≡ Postfilter.filterSection taps filter «at» value ⌝ }
+// A section's output and memory, by its sum.
+fn section_of(sum: i64) -> Section
+    ensures { λ r. ⌜ r ≡ Unscaled.sectionOf sum ⌝ }
 {
-    let sum = section_sum(taps, filter, at, value);
     let memory = trunc32(shift(sum, 1)) as i32;
     Section {
         value: rounded(sum, 2),
         memory: memory,
     }
+}
+
+// Whether the final scaling's saturation changes its value.
+fn scaling_clips(value: i16) -> bool
+    ensures { λ r. ⌜ r ≡ Unscaled.scalingClips value ⌝ }
+{
+    clips(fold(shift(forward(0, value, OUT_SCALE), 1), 32768))
+}
+
+// Whether saturation changes a value in the first section, by its sum, and in the scaling of the second's output does not. Seldom does it in the first: the rest is worked out only there.
+fn first_clips(sum: i64, value: i16) -> bool
+    ensures { λ r. ⌜ r ≡ (Fixed.clips (Postfilter.roundedSum sum (pos 2)) && not (Unscaled.scalingClips value)) ⌝ }
+{
+    if clips(fold(shift(sum, 2), 32768)) {
+        return !scaling_clips(value);
+    }
+    false
 }
 
 // Both sections' lines moved on by one: of words, and of 32-bit numbers.
@@ -141,38 +172,48 @@ fn numbers_moved(line: [i32; 6], first: i32, second: i32) -> [i32; 6]
 }
 
 // Advance both sections; the scaling comes after the block.
-fn filter_sample(taps: Taps, filter: OutputFilter, value: i16) -> Step
-    ensures { λ r. ⌜ r ≡ Unscaled.filterSample taps filter value ⌝ }
+fn filter_sample(taps: Taps, filter: OutputFilter, value: i16) -> Passed
+    ensures { λ r. ⌜ r ≡ Unscaled.passed taps filter value ⌝ }
 {
-    let first = filter_section(taps, filter, 0, value);
-    let second = filter_section(taps, filter, 3, first.value);
+    let sum = section_sum(taps, filter, 0, value);
+    let first = section_of(sum);
+    let second = section_of(section_sum(taps, filter, 3, first.value));
     let words = filter.fir;
     let numbers = filter.iir;
     let fir = words_moved(words, value, first.value);
     let iir = numbers_moved(numbers, first.memory, second.memory);
-    Step {
-        filter: OutputFilter { fir: fir, iir: iir },
-        value: second.value,
+    Passed {
+        step: Step {
+            filter: OutputFilter { fir: fir, iir: iir },
+            value: second.value,
+        },
+        clips: first_clips(sum, second.value),
     }
 }
 
 // Run a block through the two sections, without the scaling.
-fn sections(filter: OutputFilter, words: &[i16], block: &mut [i16]) -> OutputFilter
-    requires { ⌜ length (now words) ≡ WORDS ⌝ }
+fn sections(filter: OutputFilter, words: &[i16], block: &mut [i16]) -> Filtered
+    requires { ⌜ (length (now words) ≡ WORDS) × (length (now block) ≤ 80) ⌝ }
     ensures outputs { λ _. ⌜ now (block .exit) ≡ Unscaled.outputs (now (words .entry)) filter (now (block .entry)) ⌝ }
-    ensures after { λ r. ⌜ r ≡ Postfilter.after (now (words .entry)) filter (now (block .entry)) ⌝ }
+    ensures filtered { λ r. ⌜ r ≡ Unscaled.filtered (now (words .entry)) filter (now (block .entry)) ⌝ }
 {
     let taps = taps_of(words);
     let mut state = filter;
+    let mut clipped = 0u8;
     let mut n = 0;
     while n < block.len() {
-        let step = filter_sample(taps, state, block[n]);
+        let passed = filter_sample(taps, state, block[n]);
+        let step = passed.step;
         let y = step.value;
         block[n] = y;
         state = step.filter;
+        clipped += one(passed.clips);
         n += 1;
     }
-    state
+    Filtered {
+        filter: state,
+        clipped,
+    }
 }
 
 // The final output scaling.
@@ -182,25 +223,35 @@ fn scaled(value: i16) -> i16
     rounded(forward(0, value, OUT_SCALE), 1)
 }
 
-// Scale a block: a loop of its own, since what the sections carry from sample to sample would keep it to one at a time.
-fn scale(block: &mut [i16])
-    ensures { λ _. ⌜ now (block .exit) ≡ map Postfilter.scaled (now (block .entry)) ⌝ }
+// Scale a block: a loop of its own, since what the sections carry from sample to sample would keep it to one at a time. How many samples saturation changed is the answer.
+fn scale(block: &mut [i16]) -> u8
+    requires { ⌜ length (now block) ≤ 80 ⌝ }
+    ensures samples { λ _. ⌜ now (block .exit) ≡ map Postfilter.scaled (now (block .entry)) ⌝ }
+    ensures clipped { λ r. ⌜ r ≡ Unscaled.scalingClipped (now (block .entry)) ⌝ }
 {
+    let mut clipped = 0u8;
     let mut n = 0;
     while n < block.len() {
-        let y = scaled(block[n]);
+        let x = block[n];
+        let y = scaled(x);
         block[n] = y;
+        clipped += one(scaling_clips(x));
         n += 1;
     }
+    clipped
 }
 
-// Run a block through the two sections, and scale what comes of it.
-pub fn run(filter: OutputFilter, words: &[i16], block: &mut [i16]) -> OutputFilter
-    requires { ⌜ length (now words) ≡ WORDS ⌝ }
+// Run a block of at most 80 samples through the two sections, and scale what comes of it.
+pub fn run(filter: OutputFilter, words: &[i16], block: &mut [i16]) -> Filtered
+    requires { ⌜ (length (now words) ≡ WORDS) × (length (now block) ≤ 80) ⌝ }
     ensures outputs { λ _. ⌜ now (block .exit) ≡ Postfilter.outputs (now (words .entry)) filter (now (block .entry)) ⌝ }
-    ensures after { λ r. ⌜ r ≡ Postfilter.after (now (words .entry)) filter (now (block .entry)) ⌝ }
+    ensures filtered { λ r. ⌜ r ≡ Postfilter.filtered (now (words .entry)) filter (now (block .entry)) ⌝ }
 {
-    let state = sections(filter, words, block);
-    scale(block);
-    state
+    let left = sections(filter, words, block);
+    let scaled = scale(block);
+    let state = left.filter;
+    Filtered {
+        filter: state,
+        clipped: left.clipped + scaled,
+    }
 }

@@ -17,7 +17,8 @@ fn begun(words: &[i16], seed: u64) -> OutputFilter
         fir: [0; 6],
         iir: [0; 6],
     };
-    postfilter::run(zero, words, &mut block)
+    let left = postfilter::run(zero, words, &mut block);
+    left.filter
 }
 
 pub fn answer(words: &[i16], n: [i64; 128])

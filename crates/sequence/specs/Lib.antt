@@ -7,3 +7,4 @@ pub mod First
 pub mod All
 pub mod Lists
 pub mod Between
+pub mod Count

@@ -37,6 +37,10 @@ module _ (a m xs : List ℤ) (sized : length m ≡ 10) where
       let d : length D ≡ 10 = ap length e ∙ sized in
       (omega arith, length-append D R ∙ omega arith, take-at D R 10 d ∙ e, o, sym (drop-of-length-le m {i = 10} (omega arith)))
 
+  -- the ten before output n
+  pub filtered-ten : (W O : List ℤ) (n : ℕ) → length xs ≤ 80 → Filtered a m xs W O n → n < length xs → take (n + 10 - n) (drop n W) ≡ drop n (window a m xs n)
+  filtered-ten W O n short f p = last-ten W n (omega arith) ∙ ap (drop n) (f .2)
+
   -- a turn of the loop: y goes to the next place of both
   pub filtered-more : (W O : List ℤ) (n : ℕ) (y : ℤ) → length xs ≤ 80 → Filtered a m xs W O n → n < length xs →
       y ≡ sample a (take (n + 10 - n) (drop n W)) (getD xs n (pos 0)) → Filtered a m xs (set W (n + 10) y) (set O n y) (n + 1)
@@ -45,7 +49,7 @@ module _ (a m xs : List ℤ) (sized : length m ≡ 10) where
       one-more : window a m xs (n + 1) ≡ window a m xs n ++ (y ∷ [])
       one-more =
           window-more a m xs n
-          ∙ ap (λ (z : ℤ). window a m xs n ++ (z ∷ [])) (sym (next ∙ ap (λ (h : List ℤ). sample a h (getD xs n (pos 0))) (last-ten W n (omega arith) ∙ ap (drop n) (f .2))))
+          ∙ ap (λ (z : ℤ). window a m xs n ++ (z ∷ [])) (sym (next ∙ ap (λ (h : List ℤ). sample a h (getD xs n (pos 0))) (filtered-ten W O n short f p)))
 
       grown : take (n + 1 + 10) (set W (n + 10) y) ≡ window a m xs (n + 1)
       grown =

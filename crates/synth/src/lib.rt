@@ -6,9 +6,11 @@ ghost use lib.IntN.{pos, _+ℤ_, _*ℤ_};
 ghost use Rattle.sequence.specs.Total.{total};
 ghost use Rattle.fixed.specs.Fixed as Fixed;
 ghost use Rattle.synth.specs.Synth as Synth;
+use fixed::clips;
 use fixed::fold;
 use fixed::hi;
 use fixed::mul;
+use fixed::one;
 use fixed::sat;
 use fixed::shift;
 use slices::copy;
@@ -43,33 +45,38 @@ fn last(a: &[i16], history: &[i16]) -> i64
     shift(-mul(a[1], history[9]), 3)
 }
 
-// One output of the filter, from the ten before it and the input. The last of them comes in at the end, since the next output waits for this one.
-fn sample(a: &[i16], history: &[i16], x: i16) -> i16
+// What is saturated for an output, from the ten before it and the input. The last of them comes in at the end, since the next output waits for this one.
+fn sum(a: &[i16], history: &[i16], x: i16) -> i64
     requires { ⌜ (length (now a) ≡ 11) × (length (now history) ≡ 10) ⌝ }
-    ensures { λ r. ⌜ r ≡ Synth.sample (now (a .entry)) (now (history .entry)) x ⌝ }
+    ensures { λ r. ⌜ r ≡ Synth.sum (now (a .entry)) (now (history .entry)) x ⌝ }
 {
     let before = known(a, history, x);
-    hi(sat(fold(before, last(a, history))))
+    fold(before, last(a, history))
 }
 
-// The filter over a block of at most 80 samples: mem is the ten outputs before it, and then the last ten.
-pub fn synthesis(a: &[i16], input: &[i16], output: &mut [i16], mem: &mut [i16])
+// The filter over a block of at most 80 samples: mem is the ten outputs before it, and then the last ten. How many outputs saturation changed is the answer.
+pub fn synthesis(a: &[i16], input: &[i16], output: &mut [i16], mem: &mut [i16]) -> u8
     requires { ⌜ (length (now a) ≡ 11) × (length (now mem) ≡ 10) ⌝ }
     requires { ⌜ (length (now input) ≤ 80) × (length (now output) ≡ length (now input)) ⌝ }
     ensures outputs { λ _. ⌜ now (output .exit) ≡ Synth.synthesis (now (a .entry)) (now (mem .entry)) (now (input .entry)) ⌝ }
+    ensures clipped { λ r. ⌜ r ≡ Synth.clipped (now (a .entry)) (now (mem .entry)) (now (input .entry)) ⌝ }
     ensures last { λ _. ⌜ now (mem .exit) ≡ Synth.memory (now (a .entry)) (now (mem .entry)) (now (input .entry)) ⌝ }
 {
     let mut window = [0i16; 90];
     copy(&mut window[..10], &mem[..]);
     let count = input.len();
+    let mut clipped = 0u8;
     let mut n = 0;
     while n < count {
         let end = n + 10;
-        let y = sample(a, &window[n..end], input[n]);
+        let v = sum(a, &window[n..end], input[n]);
+        let y = hi(sat(v));
         window[end] = y;
         output[n] = y;
+        clipped += one(clips(v));
         n += 1;
     }
     let last = count + 10;
     copy(&mut mem[..], &window[count..last]);
+    clipped
 }

@@ -8,12 +8,15 @@ use lib.Dec.{ltb, eqb}
 use borrow.Author.Tests.{eqb-true, eqb-false, eq-eqb, ne-eqb, ltb-true, ltb-false}
 use lib.ListN.{length, getD, set, length-append, length-set, length-map}
 use lib.Seq.{getD-set-same, getD-set-other}
+use Rattle.sequence.specs.Lists as Lists
 use Rattle.sequence.specs.Table.{table, length-table, getD-table, table-of}
+use Rattle.core.specs.declared.Clipped.{Clipped}
 use Rattle.frame.specs.declared.Subframe.{Subframe}
+use Rattle.tally.specs.declared.Clippings.{Clippings}
 use Rattle.tally.specs.declared.Subframes.{Subframes}
 use Rattle.tally.specs.declared.Tally.{Tally}
-use Rattle.tally.specs.Figures.{Outcome, those, howMany, largest, smallest, class, gainIndex, codeGain, lagOf, spread, subframesOf, answeredWith, tally}
-use Rattle.tally.specs.Carried.{TOP, more, moreIf, bump, lagPlace, smaller, counted, countedAll, numbered, withFrame, uncounted, withOutcome}
+use Rattle.tally.specs.Figures.{Outcome, those, howMany, largest, smallest, class, gainIndex, codeGain, lagOf, spread, clippings, subframesOf, clippedOf, answeredWith, tally}
+use Rattle.tally.specs.Carried.{TOP, more, plus, moreIf, bump, lagPlace, smaller, counted, countedAll, added, addedAll, numbered, withFrame, uncounted, withOutcome}
 
 -- ---- how many
 module _ {A : Type 0} (f : A → Bool) where
@@ -129,24 +132,85 @@ spread-all ss (r ∷ rs) h =
     let l = length-append ss (r ∷ []) in
     rw (spread-more ss r (omega arith), spread-all (ss ++ (r ∷ [])) rs (omega arith), append-assoc)
 
+-- ---- what was clipped
+tally-append : {A : Type 0} (f : A → ℕ) (xs ys : List A) → Lists.tally f (xs ++ ys) ≡ Lists.tally f xs + Lists.tally f ys
+unfolding Lists.tally
+tally-append f [] ys = omega arith
+tally-append f (x ∷ xs) ys = let e = tally-append f xs ys in omega arith
+
+-- sums of both, kind by kind
+pub record BothClippings (a b both : Clippings) : Type 0 where
+  pub prediction-is : both .prediction ≡ a .prediction + b .prediction
+  pub mixing-is : both .mixing ≡ a .mixing + b .mixing
+  pub synthesis-is : both .synthesis ≡ a .synthesis + b .synthesis
+  pub output-is : both .output ≡ a .output + b .output
+
+pub clippings-append : (cs ds : List Clipped) → BothClippings (clippings cs) (clippings ds) (clippings (cs ++ ds))
+unfolding clippings
+clippings-append cs ds = record { prediction-is = tally-append _ cs ds; mixing-is = tally-append _ cs ds; synthesis-is = tally-append _ cs ds; output-is = tally-append _ cs ds }
+
+-- no sum is above n
+pub record AtMost (n : ℕ) (t : Clippings) : Type 0 where
+  pub prediction-le : t .prediction ≤ n
+  pub mixing-le : t .mixing ≤ n
+  pub synthesis-le : t .synthesis ≤ n
+  pub output-le : t .output ≤ n
+
+-- those of a few more come on top
+pub at-most-more : (cs ds : List Clipped) {m n k : ℕ} → AtMost m (clippings cs) → AtMost n (clippings ds) → m + n ≤ k → AtMost k (clippings (cs ++ ds))
+at-most-more cs ds a b h =
+    let e = clippings-append cs ds in
+    record {
+      prediction-le = omega (arith, e .prediction-is, a .prediction-le, b .prediction-le);
+      mixing-le = omega (arith, e .mixing-is, a .mixing-le, b .mixing-le);
+      synthesis-le = omega (arith, e .synthesis-is, a .synthesis-le, b .synthesis-le);
+      output-le = omega (arith, e .output-is, a .output-le, b .output-le);
+    }
+
+-- a sum that has room, with one more
+module _ (f : Clipped → ℕ) where
+  plus-more : (cs : List Clipped) (d : Clipped) (ds : List Clipped) → Lists.tally f (cs ++ (d ∷ ds)) ≤ TOP → plus (Lists.tally f cs) (f d) ≡ Lists.tally f (cs ++ (d ∷ []))
+  unfolding plus Lists.tally
+  plus-more cs d ds h = omega (arith, tally-append f cs (d ∷ ds), tally-append f cs (d ∷ []))
+
+clippings-same : {a a' b b' c c' d d' : ℕ} → a ≡ a' → b ≡ b' → c ≡ c' → d ≡ d' → _≡_ {A = Clippings} (record { prediction = a; mixing = b; synthesis = c; output = d }) (record { prediction = a'; mixing = b'; synthesis = c'; output = d' })
+clippings-same p q r s = rw (p, q, r, s)
+
+clippings-more : (cs : List Clipped) (d : Clipped) (ds : List Clipped) → AtMost TOP (clippings (cs ++ (d ∷ ds))) → added (clippings cs) d ≡ clippings (cs ++ (d ∷ []))
+unfolding added clippings
+clippings-more cs d ds h = clippings-same (plus-more _ cs d ds (h .prediction-le)) (plus-more _ cs d ds (h .mixing-le)) (plus-more _ cs d ds (h .synthesis-le)) (plus-more _ cs d ds (h .output-le))
+
+clippings-all : (cs ds : List Clipped) → AtMost TOP (clippings (cs ++ ds)) → addedAll (clippings cs) ds ≡ clippings (cs ++ ds)
+unfolding addedAll
+clippings-all cs [] h = rw append-nil
+clippings-all cs (d ∷ ds) h =
+    rw (clippings-more cs d ds h, clippings-all (cs ++ (d ∷ [])) ds (rw append-assoc h), append-assoc)
+
 -- ---- an outcome more
 pub subframes-append : (os ps : List Outcome) → subframesOf (os ++ ps) ≡ subframesOf os ++ subframesOf ps
 unfolding subframesOf
 subframes-append [] ps = refl
 subframes-append (o ∷ os) ps = rw (subframes-append os ps, append-assoc)
 
-tally-same : {l l' a a' b b' c c' d d' : ℕ} {s s' : Subframes} → l ≡ l' → a ≡ a' → b ≡ b' → c ≡ c' → d ≡ d' → s ≡ s' → _≡_ {A = Tally} (record { lines = l; accepted = a; «refused_6» = b; «refused_7» = c; «refused_9» = d; subframes = s }) (record { lines = l'; accepted = a'; «refused_6» = b'; «refused_7» = c'; «refused_9» = d'; subframes = s' })
-tally-same p e f g h q = rw (p, e, f, g, h, q)
+pub clipped-append : (os ps : List Outcome) → clippedOf (os ++ ps) ≡ clippedOf os ++ clippedOf ps
+unfolding clippedOf
+clipped-append [] ps = refl
+clipped-append (o ∷ os) ps = rw (clipped-append os ps, append-assoc)
 
-pub tally-more : (n : ℕ) (os : List Outcome) (o : Outcome) → n < TOP → length os < TOP → length (subframesOf os) + length (o .subframes) ≤ TOP → withOutcome (tally n os) o ≡ tally (n + 1) (os ++ (o ∷ []))
-unfolding withOutcome withFrame numbered tally more subframesOf
-tally-more n os o p q h =
+tally-same : {l l' a a' b b' c c' d d' : ℕ} {s s' : Subframes} {k k' : Clippings} → l ≡ l' → a ≡ a' → b ≡ b' → c ≡ c' → d ≡ d' → s ≡ s' → k ≡ k'
+    → _≡_ {A = Tally} (record { lines = l; accepted = a; «refused_6» = b; «refused_7» = c; «refused_9» = d; subframes = s; clipped = k }) (record { lines = l'; accepted = a'; «refused_6» = b'; «refused_7» = c'; «refused_9» = d'; subframes = s'; clipped = k' })
+tally-same p e f g h q r = rw (p, e, f, g, h, q, r)
+
+pub tally-more : (n : ℕ) (os : List Outcome) (o : Outcome) → n < TOP → length os < TOP → length (subframesOf os) + length (o .subframes) ≤ TOP → AtMost TOP (clippings (clippedOf os ++ o .clipped)) → withOutcome (tally n os) o ≡ tally (n + 1) (os ++ (o ∷ []))
+unfolding withOutcome withFrame numbered tally more subframesOf clippedOf
+tally-more n os o p q h k =
     tally-same (omega arith) (at 0) (at 6) (at 7) (at 9)
     (spread-all (subframesOf os) (o .subframes) h ∙ ap spread (sym (subframes-append os (o ∷ []) ∙ rw append-nil)))
+    (clippings-all (clippedOf os) (o .clipped) k ∙ ap clippings (sym (clipped-append os (o ∷ []) ∙ rw append-nil)))
   where
     at : (k : ℕ) → moreIf (answeredWith k os) (eqb (o .number) k) ≡ answeredWith k (os ++ (o ∷ []))
     at k = more-if (λ (x : Outcome). eqb (x .number) k) os o q
 
 pub tally-uncounted : (n : ℕ) (os : List Outcome) → n < TOP → uncounted (tally n os) ≡ tally (n + 1) os
 unfolding uncounted tally more
-tally-uncounted n os p = tally-same (omega arith) refl refl refl refl refl
+tally-uncounted n os p = tally-same (omega arith) refl refl refl refl refl refl

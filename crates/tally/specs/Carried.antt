@@ -5,7 +5,9 @@ use mathlib.Core.Bool.{Bool, cond}
 use lib.Dec.{ltb, eqb}
 use lib.IntN.{ℤ}
 use lib.ListN.{getD, set}
+use Rattle.core.specs.declared.Clipped.{Clipped}
 use Rattle.frame.specs.declared.Subframe.{Subframe}
+use Rattle.tally.specs.declared.Clippings.{Clippings}
 use Rattle.tally.specs.declared.Subframes.{Subframes}
 use Rattle.tally.specs.declared.Tally.{Tally}
 use Rattle.tally.specs.Figures.{Outcome, class, gainIndex, codeGain, lagOf}
@@ -16,6 +18,9 @@ TOP = 18446744073709551615
 
 unfoldable pub more : ℕ → ℕ
 more n = min (n + 1) TOP
+
+unfoldable pub plus : ℕ → ℕ → ℕ
+plus n k = min (n + k) TOP
 
 unfoldable pub moreIf : ℕ → Bool → ℕ
 moreIf n counts = cond counts (more n) n
@@ -51,6 +56,14 @@ unfoldable pub countedAll : Subframes → List Subframe → Subframes
 countedAll t [] = t
 countedAll t (s ∷ ss) = countedAll (counted t s) ss
 
+-- ---- what was clipped
+unfoldable pub added : Clippings → Clipped → Clippings
+added t c = record { prediction = plus (t .prediction) (c .prediction); mixing = plus (t .mixing) (c .mixing); synthesis = plus (t .synthesis) (c .synthesis); output = plus (t .output) (c .output) }
+
+unfoldable pub addedAll : Clippings → List Clipped → Clippings
+addedAll t [] = t
+addedAll t (c ∷ cs) = addedAll (added t c) cs
+
 -- ---- lines
 unfoldable pub numbered : Tally → ℕ → Tally
 numbered t number =
@@ -61,15 +74,16 @@ numbered t number =
       «refused_7» = moreIf (t .«refused_7») (eqb number 7);
       «refused_9» = moreIf (t .«refused_9») (eqb number 9);
       subframes = t .subframes;
+      clipped = t .clipped;
     }
 
-unfoldable pub withFrame : Tally → List Subframe → Tally
-withFrame t ss = record { lines = t .lines; accepted = t .accepted; «refused_6» = t .«refused_6»; «refused_7» = t .«refused_7»; «refused_9» = t .«refused_9»; subframes = countedAll (t .subframes) ss }
+unfoldable pub withFrame : Tally → List Subframe → List Clipped → Tally
+withFrame t ss cs = record { lines = t .lines; accepted = t .accepted; «refused_6» = t .«refused_6»; «refused_7» = t .«refused_7»; «refused_9» = t .«refused_9»; subframes = countedAll (t .subframes) ss; clipped = addedAll (t .clipped) cs }
 
 -- a line that no figure has: it ends a recording, or says that one was heard from its start
 unfoldable pub uncounted : Tally → Tally
-uncounted t = record { lines = more (t .lines); accepted = t .accepted; «refused_6» = t .«refused_6»; «refused_7» = t .«refused_7»; «refused_9» = t .«refused_9»; subframes = t .subframes }
+uncounted t = record { lines = more (t .lines); accepted = t .accepted; «refused_6» = t .«refused_6»; «refused_7» = t .«refused_7»; «refused_9» = t .«refused_9»; subframes = t .subframes; clipped = t .clipped }
 
 -- any other
 unfoldable pub withOutcome : Tally → Outcome → Tally
-withOutcome t o = withFrame (numbered t (o .number)) (o .subframes)
+withOutcome t o = withFrame (numbered t (o .number)) (o .subframes) (o .clipped)

@@ -1,4 +1,4 @@
--- What the term report counts, over the lines' outcomes: each figure is a length or an end of a list of outcomes or of their subframes.
+-- What the term report counts, over the lines' outcomes: each figure is a length, an end or a sum of a list of outcomes or of their subframes.
 use Prim.Native.Nat.{ℕ, _+_, min, max}
 use mathlib.Core.Path.{_≡_, refl}
 use mathlib.Core.List.{List, [], _∷_, _++_, map}
@@ -7,16 +7,20 @@ use lib.Dec.{eqb, leb}
 use lib.IntN.{ℤ, pos, negsuc}
 use lib.Ieee.{Float, nan}
 use lib.ListN.{length, getD}
+use Rattle.sequence.specs.Lists as Lists
 use Rattle.sequence.specs.Table.{table}
 use Rattle.floats.specs.Floats.{quantise}
+use Rattle.core.specs.declared.Clipped.{Clipped}
 use Rattle.frame.specs.declared.Subframe.{Subframe}
+use Rattle.tally.specs.declared.Clippings.{Clippings}
 use Rattle.tally.specs.declared.Subframes.{Subframes}
 use Rattle.tally.specs.declared.Tally.{Tally}
 
--- a line's outcome: its number, 0 where it is accepted, and then its subframes
+-- a line's outcome: its number, 0 where it is accepted, and then its subframes and what was clipped in each
 pub record Outcome : Type 0 where
   pub number : ℕ
   pub subframes : List Subframe
+  pub clipped : List Clipped
 
 -- ---- counting
 -- the elements that pass a test, and how many they are
@@ -72,10 +76,29 @@ spread ss =
       smallest = smallest (map codeGain ss);
     }
 
+-- the sums of what was clipped
+unfoldable pub clippings : List Clipped → Clippings
+clippings cs =
+    record {
+      prediction = Lists.tally (λ (c : Clipped). c .prediction) cs;
+      mixing = Lists.tally (λ (c : Clipped). c .mixing) cs;
+      synthesis = Lists.tally (λ (c : Clipped). c .synthesis) cs;
+      output = Lists.tally (λ (c : Clipped). c .output) cs;
+    }
+
+-- of two subframes, each sum by its own kind
+of-two : clippings (record { prediction = 1; mixing = 2; synthesis = 3; output = 80 } ∷ record { prediction = 10; mixing = 20; synthesis = 30; output = 80 } ∷ []) ≡ record { prediction = 11; mixing = 22; synthesis = 33; output = 160 }
+unfolding clippings Lists.tally
+of-two = refl
+
 -- ---- of the lines
 unfoldable pub subframesOf : List Outcome → List Subframe
 subframesOf [] = []
 subframesOf (o ∷ os) = o .subframes ++ subframesOf os
+
+unfoldable pub clippedOf : List Outcome → List Clipped
+clippedOf [] = []
+clippedOf (o ∷ os) = o .clipped ++ clippedOf os
 
 abbrev pub answeredWith : ℕ → List Outcome → ℕ
 answeredWith number os = howMany (λ (o : Outcome). eqb (o .number) number) os
@@ -90,6 +113,7 @@ tally n os =
       «refused_7» = answeredWith 7 os;
       «refused_9» = answeredWith 9 os;
       subframes = spread (subframesOf os);
+      clipped = clippings (clippedOf os);
     }
 
 -- reading stops at so many lines, each `=` and each first `+` among them

@@ -1,9 +1,10 @@
 // The counts of the term report, carried on from line to line: how many frames were accepted and refused, and how the subframes of the accepted ones fall on
-// classes, lags, gain indexes and code gains.
+// classes, lags, gain indexes and code gains, and how many of their samples were clipped.
 ghost use mathlib.Core.Path.{_≡_};
 ghost use mathlib.Core.List.{[]};
 ghost use Rattle.tally.specs.Figures as Figures;
 ghost use Rattle.tally.specs.Carried as Carried;
+use core::Clipped;
 use frame::Subframe;
 
 // Reading stops at so many lines, those that no figure has among them.
@@ -19,6 +20,14 @@ pub struct Subframes {
     pub smallest: u64,
 }
 
+// Of the same subframes: at how many samples saturation changed a value, in each of four steps.
+pub struct Clippings {
+    pub prediction: u64,
+    pub mixing: u64,
+    pub synthesis: u64,
+    pub output: u64,
+}
+
 // Of the lines: how many there are, and how many were accepted and refused with each number.
 pub struct Tally {
     pub lines: u64,
@@ -27,6 +36,7 @@ pub struct Tally {
     pub refused_7: u64,
     pub refused_9: u64,
     pub subframes: Subframes,
+    pub clipped: Clippings,
 }
 
 // One more. A count that stands at its top stays, so that no tally can overflow; none that began at 0 comes near it.
@@ -34,6 +44,14 @@ fn more(n: u64) -> u64
     ensures { λ r. ⌜ r ≡ Carried.more n ⌝ }
 {
     if n < u64::MAX { n + 1 } else { n }
+}
+
+// So many more, up to the same top.
+fn plus(n: u64, k: u8) -> u64
+    ensures { λ r. ⌜ r ≡ Carried.plus n k ⌝ }
+{
+    let m = k as u64;
+    if n < u64::MAX - m { n + m } else { u64::MAX }
 }
 
 fn more_if(n: u64, counts: bool) -> u64
@@ -102,6 +120,12 @@ pub fn empty() -> Tally
             largest: 0,
             smallest: 0,
         },
+        clipped: Clippings {
+            prediction: 0,
+            mixing: 0,
+            synthesis: 0,
+            output: 0,
+        },
     }
 }
 
@@ -127,15 +151,44 @@ fn counted(t: Subframes, s: Subframe) -> Subframes
     }
 }
 
-// A frame's subframes more.
-pub fn with_frame(tally: Tally, s: [Subframe; 4]) -> Tally
-    ensures { λ r. ⌜ r ≡ Carried.withFrame tally s ⌝ }
+// What was clipped in a subframe more.
+fn added(t: Clippings, c: Clipped) -> Clippings
+    ensures { λ r. ⌜ r ≡ Carried.added t c ⌝ }
 {
-    let t = tally.subframes;
+    Clippings {
+        prediction: plus(t.prediction, c.prediction),
+        mixing: plus(t.mixing, c.mixing),
+        synthesis: plus(t.synthesis, c.synthesis),
+        output: plus(t.output, c.output),
+    }
+}
+
+// A frame's subframes more.
+fn counted_all(t: Subframes, s: [Subframe; 4]) -> Subframes
+    ensures { λ r. ⌜ r ≡ Carried.countedAll t s ⌝ }
+{
     let a = counted(t, s[0]);
     let b = counted(a, s[1]);
     let c = counted(b, s[2]);
-    let subframes = counted(c, s[3]);
+    counted(c, s[3])
+}
+
+fn added_all(t: Clippings, s: [Clipped; 4]) -> Clippings
+    ensures { λ r. ⌜ r ≡ Carried.addedAll t s ⌝ }
+{
+    let a = added(t, s[0]);
+    let b = added(a, s[1]);
+    let c = added(b, s[2]);
+    added(c, s[3])
+}
+
+pub fn with_frame(tally: Tally, s: [Subframe; 4], c: [Clipped; 4]) -> Tally
+    ensures { λ r. ⌜ r ≡ Carried.withFrame tally s c ⌝ }
+{
+    let t = tally.subframes;
+    let k = tally.clipped;
+    let subframes = counted_all(t, s);
+    let clipped = added_all(k, c);
     Tally {
         lines: tally.lines,
         accepted: tally.accepted,
@@ -143,6 +196,7 @@ pub fn with_frame(tally: Tally, s: [Subframe; 4]) -> Tally
         refused_7: tally.refused_7,
         refused_9: tally.refused_9,
         subframes,
+        clipped,
     }
 }
 
@@ -151,6 +205,7 @@ pub fn numbered(tally: Tally, number: u8) -> Tally
     ensures { λ r. ⌜ r ≡ Carried.numbered tally number ⌝ }
 {
     let subframes = tally.subframes;
+    let clipped = tally.clipped;
     Tally {
         lines: more(tally.lines),
         accepted: more_if(tally.accepted, number == 0),
@@ -158,6 +213,7 @@ pub fn numbered(tally: Tally, number: u8) -> Tally
         refused_7: more_if(tally.refused_7, number == 7),
         refused_9: more_if(tally.refused_9, number == 9),
         subframes,
+        clipped,
     }
 }
 

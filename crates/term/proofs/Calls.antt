@@ -11,7 +11,7 @@ use Rattle.celp.specs.State.{missedFrame}
 use Rattle.celp.specs.Celp.{decode}
 use Rattle.celp.specs.Run.{heard, missed, step}
 use Rattle.tally.specs.declared.Tally.{Tally}
-use Rattle.tally.specs.Carried.{countedAll, numbered, withFrame, withOutcome}
+use Rattle.tally.specs.Carried.{countedAll, addedAll, numbered, withFrame, withOutcome}
 use Rattle.term.specs.Term.{answered, outcome}
 use Rattle.term.specs.Steps.{place, called}
 
@@ -21,10 +21,10 @@ module _ (words : List ℤ) (bytes : List ℕ) (s : State) (t : Tally) where
     d = decode words bytes s payload 320
 
     refused : (d .number ≡ 0 → ⊥) → place false (d .state) (numbered t (d .number)) ≡ called words bytes s t (heard payload 320)
-    unfolding called outcome answered withOutcome withFrame countedAll step
+    unfolding called outcome answered withOutcome withFrame countedAll addedAll step
     refused h = rw (ne-eqb (d .number) 0 h)
 
-    accepted : d .number ≡ 0 → place false (d .state) (withFrame (numbered t (d .number)) (d .subframes)) ≡ called words bytes s t (heard payload 320)
+    accepted : d .number ≡ 0 → place false (d .state) (withFrame (numbered t (d .number)) (d .subframes) (d .clipped)) ≡ called words bytes s t (heard payload 320)
     unfolding called outcome answered withOutcome step
     accepted h = rw (eq-eqb (d .number) 0 h)
 
@@ -32,9 +32,9 @@ module _ (words : List ℤ) (bytes : List ℕ) (s : State) (t : Tally) where
       pub called-refused : (a .number ≡ 0 → ⊥) → (u : Tally) → u ≡ numbered t (a .number) → place false (a .state) u ≡ called words bytes s t (heard payload 320)
       called-refused h u e = rw (e, is) (refused (rw is at h))
 
-      pub called-accepted : a .number ≡ 0 → (u v : Tally) → u ≡ numbered t (a .number) → v ≡ withFrame u (a .subframes) → place false (a .state) v ≡ called words bytes s t (heard payload 320)
+      pub called-accepted : a .number ≡ 0 → (u v : Tally) → u ≡ numbered t (a .number) → v ≡ withFrame u (a .subframes) (a .clipped) → place false (a .state) v ≡ called words bytes s t (heard payload 320)
       called-accepted h u v e f = rw (f, e, is) (accepted (rw is at h))
 
   pub called-missed : place false (missedFrame s .state) (numbered t 9) ≡ called words bytes s t missed
-  unfolding called outcome withOutcome withFrame countedAll numbered step
+  unfolding called outcome withOutcome withFrame countedAll addedAll numbered step
   called-missed = refl

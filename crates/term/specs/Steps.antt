@@ -10,6 +10,9 @@ use lib.ListN.{length, take, length-append}
 use lib.Seq.{take-nil}
 use native.Mathlib.Nat.{add-zero, zero-add}
 use borrow.Author.Tests.{leb-true, leb-false}
+use Rattle.sequence.specs.Lists as Lists
+use Rattle.core.specs.declared.Clipped.{Clipped}
+use Rattle.core.specs.Clipped.{Within, first-within, second-within}
 use Rattle.frame.specs.Frame as Frame
 use Rattle.celp.specs.declared.State.{State}
 use Rattle.celp.specs.State.{reset, coldStart}
@@ -17,15 +20,37 @@ use Rattle.celp.specs.Celp as Celp
 use Rattle.celp.specs.Run.{Event, heard, missed, step}
 use Rattle.stream.specs.Told.{after}
 use Rattle.recording.specs.Recording.{event, lineStep, isStart, opening}
+use Rattle.tally.specs.declared.Clippings.{Clippings}
 use Rattle.tally.specs.declared.Tally.{Tally}
-use Rattle.tally.specs.Figures.{Outcome, subframesOf, tally, LIMIT, full}
+use Rattle.tally.specs.Figures.{Outcome, clippings, subframesOf, clippedOf, tally, LIMIT, full}
 use Rattle.tally.specs.Carried.{withOutcome, uncounted}
-use Rattle.tally.specs.Added.{subframes-append, tally-more, tally-uncounted}
+use Rattle.tally.specs.Added.{AtMost, at-most-more, subframes-append, clipped-append, tally-more, tally-uncounted}
 use Rattle.term.specs.declared.Place.{Place}
 use Rattle.term.specs.Term.{isEnd, recordings, answered, outcome, outcomesFrom, outcomesOf, joined, outcomes, tallyOf}
 
 abbrev pub place : Bool → State → Tally → Place
 place first s t = record { first = first; state = s; tally = t }
+
+-- the four sums of four subframes, of which each has at most 80
+four-kinds : {a b c d : Clipped} → Within a → Within b → Within c → Within d → AtMost 320 (clippings (a ∷ b ∷ c ∷ d ∷ []))
+unfolding clippings Lists.tally
+four-kinds a b c d = record {
+  prediction-le = omega (arith, a .prediction-le, b .prediction-le, c .prediction-le, d .prediction-le);
+  mixing-le = omega (arith, a .mixing-le, b .mixing-le, c .mixing-le, d .mixing-le);
+  synthesis-le = omega (arith, a .synthesis-le, b .synthesis-le, c .synthesis-le, d .synthesis-le);
+  output-le = omega (arith, a .output-le, b .output-le, c .output-le, d .output-le);
+}
+
+no-kinds : (n : ℕ) → AtMost n (clippings [])
+unfolding clippings Lists.tally
+no-kinds n = record { prediction-le = omega arith; mixing-le = omega arith; synthesis-le = omega arith; output-le = omega arith }
+
+none-within : Within Celp.unclipped
+unfolding Celp.unclipped
+none-within = record { prediction-le = omega arith; mixing-le = omega arith; synthesis-le = omega arith; output-le = omega arith }
+
+at-most-up : {m n : ℕ} {t : Clippings} → AtMost m t → m ≤ n → AtMost n t
+at-most-up a h = record { prediction-le = omega (arith, a .prediction-le); mixing-le = omega (arith, a .mixing-le); synthesis-le = omega (arith, a .synthesis-le); output-le = omega (arith, a .output-le) }
 
 module _ (words : List ℤ) (bytes : List ℕ) where
   -- a call, counted
@@ -109,6 +134,27 @@ module _ (words : List ℤ) (bytes : List ℕ) where
       by true h = omega arith
       by false h = omega arith
 
+  -- and no sum of what is clipped in them is above 320
+  abbrev kind : List Clipped → Type 0
+  kind cs = AtMost 320 (clippings cs)
+
+  decode-clipped : (s : State) (payload : List ℕ) (room : ℕ) → kind (Celp.decode words bytes s payload room .clipped)
+  unfolding Celp.decode Celp.answer Celp.accepted Celp.refused Celp.decoded Frame.decode Frame.report Frame.clipped Frame.halves Frame.half
+  decode-clipped s payload room = by (Celp.refusal words bytes s payload room)
+    where
+      by : (n : ℕ) → kind (Celp.answer n words bytes s payload .clipped)
+      by zero = four-kinds (first-within words bytes _ _ _) (second-within words bytes _ _ _) (first-within words bytes _ _ _) (second-within words bytes _ _ _)
+      by (suc n) = four-kinds none-within none-within none-within none-within
+
+  few-clipped : (s : State) (e : Event) → kind (outcome words bytes s e .clipped)
+  unfolding outcome answered
+  few-clipped s missed = no-kinds 320
+  few-clipped s (heard payload room) = by (eqb (Celp.decode words bytes s payload room .number) 0) (decode-clipped s payload room)
+    where
+      by : (t : Bool) → kind (Celp.decode words bytes s payload room .clipped) → kind (cond t (Celp.decode words bytes s payload room .clipped) [])
+      by true h = h
+      by false h = no-kinds 320
+
   -- ---- THE COUNTS: carried on over any lines, they are those of the list
   abbrev left : ℕ → List (List ℕ) → List (List ℕ)
   left n ls = take (LIMIT - n) ls
@@ -121,17 +167,24 @@ module _ (words : List ℤ) (bytes : List ℕ) where
     pub lines-kept : n ≤ LIMIT
     pub outcomes-kept : length os ≤ n
     pub subframes-kept : length (subframesOf os) ≤ 4 * n
+    pub clipped-kept : AtMost (320 * n) (clippings (clippedOf os))
 
   kept-end : {n : ℕ} {os : List Outcome} → Kept n os → n < LIMIT → Kept (n + 1) os
-  kept-end k h = record { lines-kept = omega arith; outcomes-kept = omega (arith, k .outcomes-kept); subframes-kept = omega (arith, k .subframes-kept) }
+  kept-end k h = record { lines-kept = omega arith; outcomes-kept = omega (arith, k .outcomes-kept); subframes-kept = omega (arith, k .subframes-kept); clipped-kept = at-most-up (k .clipped-kept) (omega arith) }
 
-  kept-more : {n : ℕ} {os : List Outcome} → Kept n os → n < LIMIT → (o : Outcome) → length (o .subframes) ≤ 4 → Kept (n + 1) (os ++ (o ∷ []))
-  unfolding subframesOf
-  kept-more {n} {os} k h o f =
+  kept-more : {n : ℕ} {os : List Outcome} → Kept n os → n < LIMIT → (o : Outcome) → length (o .subframes) ≤ 4 → kind (o .clipped) → Kept (n + 1) (os ++ (o ∷ []))
+  unfolding subframesOf clippedOf
+  kept-more {n} {os} k h o f g =
       let l = length-append os (o ∷ []) in
       let m = ap length (subframes-append os (o ∷ [])) ∙ length-append (subframesOf os) (o .subframes ++ []) in
       let e = rw append-nil at m in
-      record { lines-kept = omega arith; outcomes-kept = omega (arith, k .outcomes-kept); subframes-kept = omega (arith, k .subframes-kept) }
+      let c : AtMost (320 * (n + 1)) (clippings (clippedOf os ++ o .clipped)) = at-most-more (clippedOf os) (o .clipped) (k .clipped-kept) g (omega arith) in
+      record {
+        lines-kept = omega arith;
+        outcomes-kept = omega (arith, k .outcomes-kept);
+        subframes-kept = omega (arith, k .subframes-kept);
+        clipped-kept = rw (clipped-append os (o ∷ []), append-nil) c;
+      }
 
   full-at : (n : ℕ) (os : List Outcome) → full (tally n os) ≡ leb LIMIT n
   unfolding full tally
@@ -162,7 +215,7 @@ module _ (words : List ℤ) (bytes : List ℕ) where
         let z : LIMIT - n ≡ suc (LIMIT - (n + 1)) = omega arith in
         let r : n + 1 + length (left (n + 1) ls) ≡ n + suc (length (left (n + 1) ls)) = omega arith in
         let q = few s (event l) in
-        rw (e, f, g, tally-more n os o (omega arith) (omega (arith, k .outcomes-kept)) (omega (arith, k .subframes-kept)), then false (step words bytes s (event l)) (n + 1) (os ++ (o ∷ [])) (kept-more k p o q), z, f, g, r, append-assoc)
+        rw (e, f, g, tally-more n os o (omega arith) (omega (arith, k .outcomes-kept)) (omega (arith, k .subframes-kept)) (at-most-more (clippedOf os) (o .clipped) (k .clipped-kept) (few-clipped s (event l)) (omega (arith, k .lines-kept))), then false (step words bytes s (event l)) (n + 1) (os ++ (o ∷ [])) (kept-more k p o q (few-clipped s (event l))), z, f, g, r, append-assoc)
 
   carried : (ls : List (List ℕ)) (first : Bool) (s : State) (n : ℕ) (os : List Outcome) → Kept n os → Added first s n os ls
   unfolding after walk
@@ -171,7 +224,7 @@ module _ (words : List ℤ) (bytes : List ℕ) where
 
   -- from an empty tally
   pub carried-all : (ls : List (List ℕ)) → after placed (place true (coldStart words bytes .state) (tally 0 [])) ls .tally ≡ tallyOf words bytes (take LIMIT ls)
-  unfolding tallyOf subframesOf
+  unfolding tallyOf subframesOf clippedOf
   carried-all ls =
-      let k : Kept 0 [] = record { lines-kept = omega arith; outcomes-kept = omega arith; subframes-kept = omega arith } in
+      let k : Kept 0 [] = record { lines-kept = omega arith; outcomes-kept = omega arith; subframes-kept = omega arith; clipped-kept = no-kinds 0 } in
       carried ls true (coldStart words bytes .state) 0 [] k ∙ rw (all-walked (take LIMIT ls), zero-add (length (take LIMIT ls)))

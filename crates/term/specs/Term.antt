@@ -49,13 +49,13 @@ unfolding recordings isEnd isOnly
 last-end = refl
 
 -- ---- outcomes
--- what decode answers, of which the subframes count where it is accepted
+-- what decode answers, of which the subframes and what was clipped in them count where it is accepted
 unfoldable pub answered : Answer → Outcome
-answered a = record { number = a .number; subframes = cond (eqb (a .number) 0) (a .subframes) [] }
+answered a = record { number = a .number; subframes = cond (eqb (a .number) 0) (a .subframes) []; clipped = cond (eqb (a .number) 0) (a .clipped) [] }
 
 unfoldable pub outcome : List ℤ → List ℕ → State → Event → Outcome
 outcome words bytes s (heard payload room) = answered (Celp.decode words bytes s payload room)
-outcome words bytes s missed = record { number = 9; subframes = [] }
+outcome words bytes s missed = record { number = 9; subframes = []; clipped = [] }
 
 -- of lines one after the other, by the state that the one before left
 unfoldable pub outcomesFrom : List ℤ → List ℕ → State → List (List ℕ) → List Outcome

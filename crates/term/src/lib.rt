@@ -55,10 +55,11 @@ fn hear(words: &[i16], bytes: &[u8], state: State, payload: [u8; 20], tally: Tal
         };
     }
     let s = a.subframes;
+    let c = a.clipped;
     Place {
         first: false,
         state: next,
-        tally: tally::with_frame(t, s),
+        tally: tally::with_frame(t, s, c),
     }
 }
 

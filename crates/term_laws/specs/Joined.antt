@@ -13,8 +13,8 @@ use Rattle.celp.specs.State.{reset, coldStart}
 use Rattle.recording.specs.Recording.{event, lineStep, isStart, opening}
 use Rattle.tally.specs.declared.Subframes.{Subframes}
 use Rattle.tally.specs.declared.Tally.{Tally}
-use Rattle.tally.specs.Figures.{Outcome, howMany, largest, smallest, codeGain, spread, subframesOf, tally}
-use Rattle.tally.specs.Added.{many-append, largest-append, smallest-append, subframes-append}
+use Rattle.tally.specs.Figures.{Outcome, howMany, largest, smallest, codeGain, spread, subframesOf, clippedOf, tally}
+use Rattle.tally.specs.Added.{BothClippings, many-append, largest-append, smallest-append, clippings-append, subframes-append, clipped-append}
 use Rattle.term.specs.Term.{isEnd, recordings, outcome, outcomesFrom, outcomesOf, joined, outcomes, tallyOf}
 use Rattle.term.specs.Steps.{walk, all-walked}
 
@@ -41,6 +41,7 @@ pub record Both (a b both : Tally) : Type 0 where
   pub seven : both .«refused_7» ≡ a .«refused_7» + b .«refused_7»
   pub nine : both .«refused_9» ≡ a .«refused_9» + b .«refused_9»
   pub subframes-are : BothSubframes (a .subframes) (b .subframes) (both .subframes)
+  pub clipped-are : BothClippings (a .clipped) (b .clipped) (both .clipped)
 
 -- ---- subframes
 counts-added : {A : Type 0} (test : ℕ → A → Bool) (n : ℕ) (xs ys : List A) → Added n (table (λ c. howMany (test c) xs) n) (table (λ c. howMany (test c) ys) n) (table (λ c. howMany (test c) (xs ++ ys)) n)
@@ -106,6 +107,7 @@ module _ (words : List ℤ) (bytes : List ℕ) where
         seven = many-append _ (outcomes words bytes xs) (outcomes words bytes ys);
         nine = many-append _ (outcomes words bytes xs) (outcomes words bytes ys);
         subframes-are = rw (subframes-append (outcomes words bytes xs) (outcomes words bytes ys)) (spread-both (subframesOf (outcomes words bytes xs)) (subframesOf (outcomes words bytes ys)));
+        clipped-are = rw (clipped-append (outcomes words bytes xs) (outcomes words bytes ys)) (clippings-append (clippedOf (outcomes words bytes xs)) (clippedOf (outcomes words bytes ys)));
       })
 
 -- ---- of no input

@@ -4,6 +4,7 @@ use mathlib.Core.Path.{_≡_, refl}
 use mathlib.Core.List.{List, [], _∷_, _++_}
 use mathlib.Core.Bool.{cond}
 use Rattle.stream.specs.Decimal.{decimal, decimalIn, figure}
+use Rattle.tally.specs.declared.Clippings.{Clippings}
 use Rattle.tally.specs.declared.Subframes.{Subframes}
 use Rattle.tally.specs.declared.Tally.{Tally}
 use Rattle.tally.specs.Figures.{full}
@@ -51,6 +52,22 @@ lagName = 108 ∷ 97 ∷ 103 ∷ 32 ∷ []
 abbrev pub indexName : List ℕ
 indexName = 103 ∷ 97 ∷ 105 ∷ 110 ∷ 32 ∷ 105 ∷ 110 ∷ 100 ∷ 101 ∷ 120 ∷ 32 ∷ []
 
+-- `clipped prediction`
+abbrev pub predictionName : List ℕ
+predictionName = 99 ∷ 108 ∷ 105 ∷ 112 ∷ 112 ∷ 101 ∷ 100 ∷ 32 ∷ 112 ∷ 114 ∷ 101 ∷ 100 ∷ 105 ∷ 99 ∷ 116 ∷ 105 ∷ 111 ∷ 110 ∷ 32 ∷ []
+
+-- `clipped mixing`
+abbrev pub mixingName : List ℕ
+mixingName = 99 ∷ 108 ∷ 105 ∷ 112 ∷ 112 ∷ 101 ∷ 100 ∷ 32 ∷ 109 ∷ 105 ∷ 120 ∷ 105 ∷ 110 ∷ 103 ∷ 32 ∷ []
+
+-- `clipped synthesis`
+abbrev pub synthesisName : List ℕ
+synthesisName = 99 ∷ 108 ∷ 105 ∷ 112 ∷ 112 ∷ 101 ∷ 100 ∷ 32 ∷ 115 ∷ 121 ∷ 110 ∷ 116 ∷ 104 ∷ 101 ∷ 115 ∷ 105 ∷ 115 ∷ 32 ∷ []
+
+-- `clipped output`
+abbrev pub outputName : List ℕ
+outputName = 99 ∷ 108 ∷ 105 ∷ 112 ∷ 112 ∷ 101 ∷ 100 ∷ 32 ∷ 111 ∷ 117 ∷ 116 ∷ 112 ∷ 117 ∷ 116 ∷ 32 ∷ []
+
 -- `largest code gain`
 abbrev pub largestName : List ℕ
 largestName = 108 ∷ 97 ∷ 114 ∷ 103 ∷ 101 ∷ 115 ∷ 116 ∷ 32 ∷ 99 ∷ 111 ∷ 100 ∷ 101 ∷ 32 ∷ 103 ∷ 97 ∷ 105 ∷ 110 ∷ 32 ∷ []
@@ -72,17 +89,29 @@ numberLines t =
     ++ (figure refused7 (t .«refused_7»)
     ++ figure refused9 (t .«refused_9»)))
 
+-- `clipped prediction N`, `clipped mixing N`, `clipped synthesis N`, `clipped output N`
+unfoldable pub clippedLines : Clippings → List ℕ
+clippedLines c =
+    figure predictionName (c .prediction)
+    ++ (figure mixingName (c .mixing)
+    ++ (figure synthesisName (c .synthesis)
+    ++ figure outputName (c .output)))
+
 -- `largest code gain N`, `smallest code gain N`
 unfoldable pub gainLines : Subframes → List ℕ
 gainLines s = figure largestName (s .largest) ++ figure smallestName (s .smallest)
 
--- `class C N`, `lag L N`, `gain index G N`, and the code gains
-unfoldable pub subframeLines : Subframes → List ℕ
-subframeLines s =
+-- what was clipped, and the code gains
+unfoldable pub lastLines : Subframes → Clippings → List ℕ
+lastLines s c = clippedLines c ++ gainLines s
+
+-- `class C N`, `lag L N`, `gain index G N`, and those
+unfoldable pub subframeLines : Subframes → Clippings → List ℕ
+subframeLines s c =
     rows className 0 (s .classes)
     ++ (rows lagName 19 (s .lags)
     ++ (rows indexName 0 (s .«gain_indexes»)
-    ++ gainLines s))
+    ++ lastLines s c))
 
 unfoldable pub report : Tally → List ℕ
-report t = numberLines t ++ (subframeLines (t .subframes) ++ cond (full t) stopped [])
+report t = numberLines t ++ (subframeLines (t .subframes) (t .clipped) ++ cond (full t) stopped [])

@@ -6,6 +6,7 @@ ghost use lib.Seq.{sets};
 ghost use Rattle.io.specs.Counts.{Counts};
 ghost use Rattle.stream.specs.Room.{over};
 ghost use Rattle.term_text.specs.Report as Report;
+use tally::Clippings;
 use tally::Subframes;
 use tally::Tally;
 
@@ -57,19 +58,41 @@ fn put_gains(s: Subframes, n: usize, room: &mut [u8]) -> usize
     stream::put_figure(b"smallest code gain ", s.smallest, a, room)
 }
 
-fn put_subframes(s: Subframes, n: usize, room: &mut [u8]) -> usize
-    requires { ⌜ n + 13859 ≤ length (now room) ⌝ }
-    ensures next { λ r. ⌜ r ≡ n + length (Report.subframeLines s) ⌝ }
-    ensures text { λ _. ⌜ now (room .exit) ≡ sets (now (room .entry)) n (Report.subframeLines s) ⌝ }
-    ensures fits { λ r. ⌜ r ≤ n + 13859 ⌝ }
+fn put_clipped(c: Clippings, n: usize, room: &mut [u8]) -> usize
+    requires { ⌜ n + 151 ≤ length (now room) ⌝ }
+    ensures next { λ r. ⌜ r ≡ n + length (Report.clippedLines c) ⌝ }
+    ensures text { λ _. ⌜ now (room .exit) ≡ sets (now (room .entry)) n (Report.clippedLines c) ⌝ }
+    ensures fits { λ r. ⌜ r ≤ n + 151 ⌝ }
+{
+    let a = stream::put_figure(b"clipped prediction ", c.prediction, n, room);
+    let b = stream::put_figure(b"clipped mixing ", c.mixing, a, room);
+    let d = stream::put_figure(b"clipped synthesis ", c.synthesis, b, room);
+    stream::put_figure(b"clipped output ", c.output, d, room)
+}
+
+fn put_last(s: Subframes, c: Clippings, n: usize, room: &mut [u8]) -> usize
+    requires { ⌜ n + 230 ≤ length (now room) ⌝ }
+    ensures next { λ r. ⌜ r ≡ n + length (Report.lastLines s c) ⌝ }
+    ensures text { λ _. ⌜ now (room .exit) ≡ sets (now (room .entry)) n (Report.lastLines s c) ⌝ }
+    ensures fits { λ r. ⌜ r ≤ n + 230 ⌝ }
+{
+    let a = put_clipped(c, n, room);
+    put_gains(s, a, room)
+}
+
+fn put_subframes(s: Subframes, c: Clippings, n: usize, room: &mut [u8]) -> usize
+    requires { ⌜ n + 14010 ≤ length (now room) ⌝ }
+    ensures next { λ r. ⌜ r ≡ n + length (Report.subframeLines s c) ⌝ }
+    ensures text { λ _. ⌜ now (room .exit) ≡ sets (now (room .entry)) n (Report.subframeLines s c) ⌝ }
+    ensures fits { λ r. ⌜ r ≤ n + 14010 ⌝ }
 {
     let classes = s.classes;
     let lags = s.lags;
     let gain_indexes = s.gain_indexes;
-    let a = put_rows(b"class ", 0, &classes, n, room);
-    let b = put_rows(b"lag ", 19, &lags, a, room);
-    let c = put_rows(b"gain index ", 0, &gain_indexes, b, room);
-    put_gains(s, c, room)
+    let x = put_rows(b"class ", 0, &classes, n, room);
+    let y = put_rows(b"lag ", 19, &lags, x, room);
+    let z = put_rows(b"gain index ", 0, &gain_indexes, y, room);
+    put_last(s, c, z, room)
 }
 
 // The report, over the beginning of room. The answer is its length.
@@ -80,8 +103,9 @@ pub fn put_report(tally: Tally, room: &mut [u8]) -> usize
     ensures fits { λ r. ⌜ Counts r (now (room .exit)) ⌝ }
 {
     let subframes = tally.subframes;
+    let clipped = tally.clipped;
     let a = put_numbers(tally, 0, room);
-    let b = put_subframes(subframes, a, room);
+    let b = put_subframes(subframes, clipped, a, room);
     if tally::full(tally) {
         return stream::put_at(b"stopped at 4294967295 lines\n", b, room);
     }

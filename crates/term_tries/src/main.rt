@@ -1,8 +1,10 @@
 // Recordings that report is tried on. A line of standard input names a table file and recordings; a heading and what report writes of the two follow.
-// Where a line begins with `near `, two lines may be counted before the limit, classes are at their top, and code gains go from 5 to 7.
+// Where a line begins with `near `, two lines may be counted before the limit, classes and one sum of clipped samples are at their top, another is 3 below it, and
+// code gains go from 5 to 7.
 ghost use Prim.Native.Nat.{_≤_, _<_};
 ghost use lib.ListN.{length};
 ghost use Rattle.recording.specs.Feed as Recording;
+use tally::Clippings;
 use tally::Subframes;
 use tally::Tally;
 use term::Recorder;
@@ -24,6 +26,12 @@ fn near(recorder: Recorder) -> Recorder {
             gain_indexes: [0; 128],
             largest: 7,
             smallest: 5,
+        },
+        clipped: Clippings {
+            prediction: u64::MAX,
+            mixing: u64::MAX - 3,
+            synthesis: 0,
+            output: 7,
         },
     };
     Recorder {

@@ -3,6 +3,7 @@
 // A line `digest NAME` begins another recording, with the table file of that name, and from there on 32 bits stand for each part.
 use celp::Answer;
 use celp::State;
+use core::Clipped;
 use frame::Subframe;
 use hex::Line;
 use libc::STDOUT_FILENO;
@@ -58,7 +59,16 @@ fn head(name: &[u8], n: u8, digest: bool) {
     }
 }
 
-fn subframe_part(s: Subframe, digest: bool) {
+fn clipped_line(out: &mut [u8; 4096], at: usize, c: Clipped) -> usize {
+    let a = text(out, at, b"clipped");
+    let b = number(out, a, wide(c.prediction));
+    let d = number(out, b, wide(c.mixing));
+    let e = number(out, d, wide(c.synthesis));
+    let f = number(out, e, wide(c.output));
+    end(out, f)
+}
+
+fn subframe_part(s: Subframe, clipped: Clipped, digest: bool) {
     let mut out = io::buffer();
     let figures = s.figures;
     let lpc = s.lpc;
@@ -70,7 +80,8 @@ fn subframe_part(s: Subframe, digest: bool) {
     let e = text(&mut out, d, b"zero_residuals");
     let f = number(&mut out, e, wide(s.zero_residuals));
     let g = end(&mut out, f);
-    part(&out, g, digest);
+    let h = clipped_line(&mut out, g, clipped);
+    part(&out, h, digest);
 }
 
 fn numbers_part(name: &[u8], w: &[i16], digest: bool) {
@@ -89,10 +100,11 @@ fn answer_parts(a: Answer, samples: &[i16], digest: bool) {
     let excitation = a.excitation;
     numbers_part(b"excitation", &excitation, digest);
     let subframes = a.subframes;
-    subframe_part(subframes[0], digest);
-    subframe_part(subframes[1], digest);
-    subframe_part(subframes[2], digest);
-    subframe_part(subframes[3], digest);
+    let clipped = a.clipped;
+    subframe_part(subframes[0], clipped[0], digest);
+    subframe_part(subframes[1], clipped[1], digest);
+    subframe_part(subframes[2], clipped[2], digest);
+    subframe_part(subframes[3], clipped[3], digest);
 }
 
 // A line's call: the state after it.

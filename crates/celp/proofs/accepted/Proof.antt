@@ -12,7 +12,7 @@ next-requires c κs = search needs
 
 returns : tie.Need-returns
 unfolding accepted
-returns c = rw (c .before .before .next .ensures, c .before .before .before .raised .ensures)
+returns c = rw (c .before .before .before .next .ensures, c .before .before .before .before .raised .ensures)
 
 pub accepted-spec : {M : Type 1} → statement M
 accepted-spec = tie.close (tie.spec raised-requires next-requires returns)

@@ -10,9 +10,12 @@ marked-requires c κs = search needs
 silent-requires : tie.Need-silent-requires
 silent-requires c κs = search needs
 
+unclipped-requires : tie.Need-unclipped-requires
+unclipped-requires c κs = search needs
+
 returns : tie.Need-returns
 unfolding refused
-returns c = rw (c .before .marked .ensures, c .silent .ensures)
+returns c = rw (c .before .before .marked .ensures, c .before .silent .ensures, c .unclipped .ensures)
 
 pub refused-spec : {M : Type 1} → statement M
-refused-spec = tie.close (tie.spec marked-requires silent-requires returns)
+refused-spec = tie.close (tie.spec marked-requires silent-requires unclipped-requires returns)

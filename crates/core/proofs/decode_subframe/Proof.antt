@@ -14,6 +14,7 @@ use Rattle.lsp.specs.Lsp as Lsp
 use Rattle.codebook.specs.declared.Innovation.{Innovation}
 use Rattle.gain.specs.declared.Decoded.{Decoded}
 use Rattle.gain.specs.Gain as Gain
+use Rattle.core.specs.declared.Counts.{Counts}
 use Rattle.core.specs.declared.SubframeParams.{SubframeParams}
 use Rattle.core.specs.declared.Subframe.{Subframe}
 use Rattle.core.specs.Core as Spec
@@ -26,6 +27,10 @@ module _ (words : List ℤ) (bytes : List ℕ) (exc : List ℤ) (start : ℕ) (p
       whole : s ≡ Spec.part e start → t ≡ Spec.traced p gains i g s → t ≡ Spec.decodeSubframe words bytes exc start p sharpenFixed lastHalfLag gains
       unfolding Spec.decodeSubframe
       whole s-is t-is = t-is ∙ simp (s-is, e-is, g-is, i-is)
+
+      counted : (n : Counts) → n ≡ Spec.counts words exc start (p .lag) (g .«pitch_gain») (g .«code_gain») (i .code) → t ≡ Spec.traced p gains i g s → n ≡ Spec.countsBy words exc start (t .trace)
+      unfolding Spec.traced
+      counted n n-is t-is = rw t-is n-is
 
       roomed : t ≡ Spec.traced p gains i g s → e ≡ Spec.excitedBy words exc start (t .trace)
       unfolding Spec.traced
@@ -78,9 +83,13 @@ returns c =
     let i = k .innovation .result in
     let g = d .decode .result in
     let i-is : i ≡ Spec.innovation words p (s .args .sharpen-fixed) (s .args .last-half-lag) = simp (toZ-ofZ w16 _ (s .fits .sharpen-fixed), toZ-ofZ w16 _ (s .fits .last-half-lag)) at (k .innovation .ensures) in
-    let e-is : x .excite .last .1 .0 ≡ Spec.excited words (s .args .exc .now) (s .args .start) (p .lag) (g .«pitch_gain») (g .«code_gain») (i .code) = simp (back w16 (g .«pitch_gain») (q .struct-told .given .0 .1), back w16 (g .«code_gain») (x .before .struct-told2 .given .1 .0 .1)) at (x .excite .ensures) in (
+    let e-is : x .excite .last .1 .0 ≡ Spec.excited words (s .args .exc .now) (s .args .start) (p .lag) (g .«pitch_gain») (g .«code_gain») (i .code) = simp (back w16 (g .«pitch_gain») (q .struct-told .given .0 .1), back w16 (g .«code_gain») (x .before .struct-told2 .given .1 .0 .1)) at (x .excite .ensures .0) in
+    let n-is : x .excite .result ≡ Spec.counts words (s .args .exc .now) (s .args .start) (p .lag) (g .«pitch_gain») (g .«code_gain») (i .code) = simp (back w16 (g .«pitch_gain») (q .struct-told .given .0 .1), back w16 (g .«code_gain») (x .before .struct-told2 .given .1 .0 .1)) at (x .excite .ensures .1) in (
       whole words (s .args .bytes .now) (s .args .exc .now) (s .args .start) p (s .args .sharpen-fixed) (s .args .last-half-lag) (s .args .gains) i g (x .excite .last .1 .0) (c .before .part .result) (c .traced .result) i-is (d .decode .ensures) e-is (c .before .part .ensures) (c .traced .ensures),
-      roomed words (s .args .bytes .now) (s .args .exc .now) (s .args .start) p (s .args .sharpen-fixed) (s .args .last-half-lag) (s .args .gains) i g (x .excite .last .1 .0) (c .before .part .result) (c .traced .result) i-is (d .decode .ensures) e-is (c .traced .ensures),
+      (
+        roomed words (s .args .bytes .now) (s .args .exc .now) (s .args .start) p (s .args .sharpen-fixed) (s .args .last-half-lag) (s .args .gains) i g (x .excite .last .1 .0) (c .before .part .result) (c .traced .result) i-is (d .decode .ensures) e-is (c .traced .ensures),
+        counted words (s .args .bytes .now) (s .args .exc .now) (s .args .start) p (s .args .sharpen-fixed) (s .args .last-half-lag) (s .args .gains) i g (x .excite .last .1 .0) (c .before .part .result) (c .traced .result) i-is (d .decode .ensures) e-is (x .excite .result) n-is (c .traced .ensures),
+      ),
     )
 
 pub decode-subframe-spec : {M : Type 1} → statement M

@@ -69,7 +69,7 @@ decode-requires : tie.Need-decode-requires
 decode-requires c κs = search needs
 
 slice-write-image-3 : tie.Need-slice-write-image-3
-slice-write-image-3 c = search needs
+slice-write-image-3 c = search (needs, c .before .before .before .before .before .before .before .before .before .before .before .before .before .before .if1 .left)
 
 same-length-3 : tie.Need-same-length-3
 same-length-3 c = search needs

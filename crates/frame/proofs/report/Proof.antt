@@ -13,11 +13,14 @@ put-excitation-requires c κs = search needs
 subframes-requires : tie.Need-subframes-requires
 subframes-requires c κs = search needs
 
+clipped-requires : tie.Need-clipped-requires
+clipped-requires c κs = search needs
+
 returns : tie.Need-returns
 unfolding report
-returns c = rw (c .before .before .before .before .put-excitation .ensures, c .before .before .subframes .ensures)
+returns c = rw (c .before .before .before .before .before .put-excitation .ensures, c .before .before .before .subframes .ensures, c .before .before .clipped .ensures)
 
 pub report-spec : {M : Type 1} → statement M
 report-spec =
     tie.close
-    (tie.spec slice-aggregate-put-excitation put-excitation-requires subframes-requires returns)
+    (tie.spec slice-aggregate-put-excitation put-excitation-requires subframes-requires clipped-requires returns)

@@ -2,14 +2,14 @@
 use borrow.Author.Needs.{needs}
 use native.Mathlib.Omega.{arith}
 use mathlib.Core.Path.{sym, _∙_, ap}
-use Prim.Native.Nat.{ℕ, _≤_}
+use Prim.Native.Nat.{ℕ, _+_, _≤_}
 use lib.ListN.{length}
 use Rattle.sequence.specs.Rewritten.{rewritten}
 use Rattle.pitch.specs.Pitch as Pitch
 use Rattle.pitch.specs.Window as Window
 use Rattle.pitch.specs.Lags.{sane-phase, sane-delay}
 use Rattle.pitch.proofs.Taps.{length-interp}
-use Rattle.pitch.proofs.Filter.{windowed-of, predicted-is}
+use Rattle.pitch.proofs.Filter.{windowed-of, predicted-is, clippedBy, clipped-is}
 use Rattle.pitch.proofs.predict.Statement.{statement}
 use Rattle.pitch.proofs.predict.Tie as tie
 
@@ -59,15 +59,20 @@ same-length : tie.Need-same-length
 same-length c = search needs
 
 returns : tie.Need-returns
-unfolding Pitch.predict
+unfolding Pitch.predict Pitch.clipped
 returns c =
     let p = c .before in
     let d = p .before in
     let a = s d .args in
     let taps = Pitch.interp (a .words .now) in
-    p .predict-from .ensures
-    ∙ predicted-is taps (w d .window .result) (Pitch.phase (a .lag)) (windowed d) (d .delay .result) (a .at) (a .exc .now) 80 (omega (arith, delay-range d, s d .pre .1))
-    ∙ ap (λ (n : ℕ). rewritten (Pitch.predicted taps (Pitch.phase (a .lag)) n (a .at)) (a .at) (a .exc .now) 80) (d .delay .ensures)
+    let reach : d .delay .result + 9 ≤ a .at = omega (arith, delay-range d, s d .pre .1) in (
+      p .predict-from .ensures .0
+          ∙ predicted-is taps (w d .window .result) (Pitch.phase (a .lag)) (windowed d) (d .delay .result) (a .at) (a .exc .now) 80 reach
+          ∙ ap (λ (n : ℕ). rewritten (Pitch.predicted taps (Pitch.phase (a .lag)) n (a .at)) (a .at) (a .exc .now) 80) (d .delay .ensures),
+      p .predict-from .ensures .1
+          ∙ clipped-is taps (w d .window .result) (Pitch.phase (a .lag)) (windowed d) (d .delay .result) (a .at) (a .exc .now) reach
+          ∙ ap (clippedBy taps (Pitch.phase (a .lag)) (a .at) (a .exc .now)) (d .delay .ensures),
+    )
 
 pub predict-spec : {M : Type 1} → statement M
 predict-spec =

@@ -1,19 +1,32 @@
 -- Each call as it is defined, the last first.
 use borrow.Author.Needs.{needs}
-use mathlib.Core.Path.{_≡_}
-use mir.Syntax.{w16, w32}
-use mir.Val.{SFits}
+use mathlib.Core.Bool.{not, _&&_}
+use mathlib.Core.Path.{_≡_, sym, _∙_, ap}
+use lib.IntN.{ℤ, pos}
+use mir.Syntax.{w16, w32, w64}
+use mir.Val.{SFits, toZ, ofZ}
 use mir.ValLaws.{toZ-ofZ}
+use Rattle.fixed.specs.Fixed as Fixed
+use Rattle.fixed.specs.Machine.{back}
+use Rattle.postfilter.specs.declared.OutputFilter.{OutputFilter}
+use Rattle.postfilter.specs.declared.Section.{Section}
+use Rattle.postfilter.specs.declared.Taps.{Taps}
 use Rattle.postfilter.specs.Postfilter as Postfilter
 use Rattle.postfilter.specs.Unscaled as Unscaled
 use Rattle.postfilter.proofs.filter_sample.Statement.{statement}
 use Rattle.postfilter.proofs.filter_sample.Tie as tie
 
-filter-section-requires : tie.Need-filter-section-requires
-filter-section-requires c κs = search needs
+section-sum-requires : tie.Need-section-sum-requires
+section-sum-requires c κs = search needs
 
-filter-section-requires-2 : tie.Need-filter-section-requires-2
-filter-section-requires-2 c κs = search needs
+section-of-requires : tie.Need-section-of-requires
+section-of-requires c κs = search needs
+
+section-sum-requires-2 : tie.Need-section-sum-requires-2
+section-sum-requires-2 c κs = search needs
+
+section-of-requires-2 : tie.Need-section-of-requires-2
+section-of-requires-2 c κs = search needs
 
 words-moved-requires : tie.Need-words-moved-requires
 words-moved-requires c κs = search needs
@@ -21,41 +34,69 @@ words-moved-requires c κs = search needs
 numbers-moved-requires : tie.Need-numbers-moved-requires
 numbers-moved-requires c κs = search needs
 
+first-clips-requires : tie.Need-first-clips-requires
+first-clips-requires c κs = search needs
+
+-- the test by what the sections gave
+first-by : (taps : Taps) (filter : OutputFilter) (value : ℤ) (first second : Section) → first ≡ Postfilter.filterSection taps filter 0 value → second ≡ Postfilter.filterSection taps filter 3 (first .value)
+    → (Fixed.clips (Postfilter.roundedSum (Postfilter.sectionSum taps filter 0 value) (pos 2)) && not (Unscaled.scalingClips (second .value))) ≡ Unscaled.firstClips taps filter value
+unfolding Unscaled.firstClips Unscaled.filterSample
+first-by taps filter value first second e f = λ i. Fixed.clips (Postfilter.roundedSum (Postfilter.sectionSum taps filter 0 value) (pos 2)) && not (Unscaled.scalingClips ((f ∙ (λ j. Postfilter.filterSection taps filter 3 (e j .value))) i .value))
+
 -- the two sections
-module _ (c : tie.After-filter-section2) where
+module _ (c : tie.After-section-of2) where
   abbrev s : tie.Start
-  s = c .before .before .before
+  s = c .before .before .before .before .before
 
-  first-is : c .before .before .filter-section .result ≡ Postfilter.filterSection (s .args .taps) (s .args .filter) 0 (s .args .value)
-  first-is = simp (toZ-ofZ w16 _ (s .fits .value)) at (c .before .before .filter-section .ensures)
+  abbrev first : Section
+  first = c .before .before .before .section-of .result
 
-  value-fits : SFits w16 (c .before .before .filter-section .result .value)
+  sum-is : toZ w64 (ofZ w64 (c .before .before .before .before .section-sum .result)) ≡ Postfilter.sectionSum (s .args .taps) (s .args .filter) 0 (s .args .value)
+  sum-is =
+      let a = c .before .before .before .before .section-sum in
+      back w64 (a .result) (a .ok) ∙ simp (toZ-ofZ w16 _ (s .fits .value)) at (a .ensures)
+
+  first-is : first ≡ Postfilter.filterSection (s .args .taps) (s .args .filter) 0 (s .args .value)
+  first-is = c .before .before .before .section-of .ensures ∙ ap Unscaled.sectionOf sum-is ∙ sym (Unscaled.section-is (s .args .taps) (s .args .filter) 0 (s .args .value))
+
+  value-fits : SFits w16 (first .value)
   value-fits = search needs
 
-  second-is : c .filter-section2 .result ≡ Postfilter.filterSection (s .args .taps) (s .args .filter) 3 (c .before .before .filter-section .result .value)
-  second-is = simp (toZ-ofZ w16 _ value-fits) at (c .filter-section2 .ensures)
+  second-is : c .section-of2 .result ≡ Postfilter.filterSection (s .args .taps) (s .args .filter) 3 (first .value)
+  second-is =
+      let a = c .before .section-sum2 in
+      c .section-of2 .ensures
+      ∙ ap Unscaled.sectionOf (back w64 (a .result) (a .ok) ∙ simp (toZ-ofZ w16 _ value-fits) at (a .ensures))
+      ∙ sym (Unscaled.section-is (s .args .taps) (s .args .filter) 3 (first .value))
 
 returns : tie.Need-returns
-unfolding Unscaled.filterSample Postfilter.filterSample
+unfolding Unscaled.passed Unscaled.filterSample Postfilter.filterSample
 returns c =
-    let n = c .before in
+    let n = c .before .before .before in
     let w = n .before .before .before in
     let b = w .before .before .before .before in
-    let first = b .before .before .filter-section .result in
-    let second = b .filter-section2 .result in
+    let first = b .before .before .before .section-of .result in
+    let second = b .section-of2 .result in
     let m : SFits w32 (first .memory) = search needs in
     let v : SFits w16 (second .value) = search needs in
     let u : SFits w32 (second .memory) = search needs in
     let f : w .words-moved .result ≡ Postfilter.moved (s b .args .filter .fir) (s b .args .value) (first .value) = simp (toZ-ofZ w16 _ (s b .fits .value), toZ-ofZ w16 _ (value-fits b)) at (w .words-moved .ensures) in
     let r : n .numbers-moved .result ≡ Postfilter.moved (s b .args .filter .iir) (first .memory) (second .memory) = simp (toZ-ofZ w32 _ m, toZ-ofZ w32 _ u) at (n .numbers-moved .ensures) in
-    rw (toZ-ofZ w16 (second .value) v) (simp (f, r, second-is b, first-is b))
+    let t : c .first-clips .result ≡ (Fixed.clips (Postfilter.roundedSum (Postfilter.sectionSum (s b .args .taps) (s b .args .filter) 0 (s b .args .value)) (pos 2)) && not (Unscaled.scalingClips (second .value))) =
+    simp (sum-is b, toZ-ofZ w16 _ v) at (c .first-clips .ensures) in
+    let q : c .first-clips .result ≡ Unscaled.firstClips (s b .args .taps) (s b .args .filter) (s b .args .value) =
+    t ∙ first-by (s b .args .taps) (s b .args .filter) (s b .args .value) first second (first-is b) (second-is b) in
+    rw (toZ-ofZ w16 (second .value) v, q) (simp (f, r, second-is b, first-is b))
 
 pub filter-sample-spec : {M : Type 1} → statement M
 filter-sample-spec =
     tie.close
     (tie.spec
-    filter-section-requires
-    filter-section-requires-2
+    section-sum-requires
+    section-of-requires
+    section-sum-requires-2
+    section-of-requires-2
     words-moved-requires
     numbers-moved-requires
+    first-clips-requires
     returns)

@@ -28,10 +28,10 @@ with-frame-requires c κs = search needs
 
 returns-2 : tie.Need-returns-2
 returns-2 c =
-    let d = c .before .before .before .before .before .before in
+    let d = c .before .before .before .before .before .before .before in
     let s = d .before .before .before .before in
     let a = d .decode in
-    called-accepted (s .args .words .now) (s .args .bytes .now) (s .args .state) (s .args .tally) (s .args .t4) (a .result) (a .ensures .0) (c .before .before .if1 .left) _ _ (c .before .before .before .numbered .ensures) (c .with-frame .ensures)
+    called-accepted (s .args .words .now) (s .args .bytes .now) (s .args .state) (s .args .tally) (s .args .t4) (a .result) (a .ensures .0) (c .before .before .before .if1 .left) _ _ (c .before .before .before .before .numbered .ensures) (c .with-frame .ensures)
 
 pub hear-spec : {M : Type 1} → statement M
 hear-spec =

@@ -16,11 +16,11 @@ use Rattle.term_text.proofs.put_report.Statement.{statement}
 use Rattle.term_text.proofs.put_report.Tie as tie
 
 -- the report by whether reading stopped
-by-full : (t : Tally) → full t ≡ true → report t ≡ numberLines t ++ (subframeLines (t .subframes) ++ stopped)
+by-full : (t : Tally) → full t ≡ true → report t ≡ numberLines t ++ (subframeLines (t .subframes) (t .clipped) ++ stopped)
 unfolding report
 by-full t e = rw e
 
-by-left : (t : Tally) → full t ≡ false → report t ≡ numberLines t ++ subframeLines (t .subframes)
+by-left : (t : Tally) → full t ≡ false → report t ≡ numberLines t ++ subframeLines (t .subframes) (t .clipped)
 unfolding report
 by-left t e = rw (e, append-nil)
 
@@ -48,10 +48,10 @@ returns c =
     let k = p .before .before .before .before in
     let q = k .before .before .before in
     let r = q .before .before .before .before in
-    let s = r .before .before .before .before in
+    let s = r .before .before .before .before .before in
     let t = s .args .tally in
     let m = by-full t (sym (k .full .ensures) ∙ p .before .before .before .if1 .taken) in
-    let w = three-parts (s .args .room .now) 0 (numberLines t) (subframeLines (t .subframes)) stopped in
+    let w = three-parts (s .args .room .now) 0 (numberLines t) (subframeLines (t .subframes) (t .clipped)) stopped in
     let n : p .put-at .result ≡ length (report t) = p .put-at .ensures .0 ∙ rw (q .put-subframes .ensures .0, r .put-numbers .ensures .0, m) (w .0 ∙ zero-add _) in
     let h : length (report t) ≤ length (s .args .room .now) = omega (arith, p .put-at .ensures .0, q .put-subframes .ensures .1 .1, r .put-numbers .ensures .1 .1, s .pre) in
     let x : p .put-at .last .1 .1 .0 ≡ over (report t) (s .args .room .now) = p .put-at .ensures .1 ∙ rw (q .put-subframes .ensures .0, q .put-subframes .ensures .1 .0, r .put-numbers .ensures .0, r .put-numbers .ensures .1 .0) (w .1 ∙ rw (← m) (sets-over (report t) (s .args .room .now) h)) in
@@ -65,13 +65,13 @@ returns-2 c =
     let k = c .before in
     let q = k .before .before .before in
     let r = q .before .before .before .before in
-    let s = r .before .before .before .before in
+    let s = r .before .before .before .before .before in
     let t = s .args .tally in
     let m = by-left t (sym (k .full .ensures) ∙ c .if1 .left) in
-    let w = two-parts (s .args .room .now) 0 (numberLines t) (subframeLines (t .subframes)) in
+    let w = two-parts (s .args .room .now) 0 (numberLines t) (subframeLines (t .subframes) (t .clipped)) in
     let n : q .put-subframes .result ≡ length (report t) = q .put-subframes .ensures .0 ∙ rw (r .put-numbers .ensures .0, m) (w .0 ∙ zero-add _) in
     let h : length (report t) ≤ length (s .args .room .now) = omega (arith, q .put-subframes .ensures .1 .1, r .put-numbers .ensures .1 .1, s .pre) in
-    let x : q .put-subframes .last .1 .1 .0 ≡ over (report t) (s .args .room .now) = q .put-subframes .ensures .1 .0 ∙ rw (r .put-numbers .ensures .0, r .put-numbers .ensures .1 .0) (w .1 ∙ rw (← m) (sets-over (report t) (s .args .room .now) h)) in
+    let x : q .put-subframes .last .1 .1 .1 .0 ≡ over (report t) (s .args .room .now) = q .put-subframes .ensures .1 .0 ∙ rw (r .put-numbers .ensures .0, r .put-numbers .ensures .1 .0) (w .1 ∙ rw (← m) (sets-over (report t) (s .args .room .now) h)) in
     (n, (x, over-counts (report t) (s .args .room .now) _ x n h))
 
 pub put-report-spec : {M : Type 1} → statement M

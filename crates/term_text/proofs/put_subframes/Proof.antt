@@ -3,7 +3,7 @@ use native.Mathlib.Omega.{arith}
 use Prim.Native.Nat.{_+_, _≤_}
 use mathlib.Core.Path.{_≡_, _∙_}
 use lib.ListN.{length}
-use Rattle.term_text.specs.Report.{className, lagName, indexName, rows, gainLines, subframeLines}
+use Rattle.term_text.specs.Report.{className, lagName, indexName, rows, lastLines, subframeLines}
 use Rattle.term_text.proofs.Put.{four-parts}
 use Rattle.term_text.proofs.Rows.{rows-long}
 use borrow.Author.Needs.{needs}
@@ -63,8 +63,8 @@ put-rows-requires-3 c κs =
     let y = rows-long lagName (omega arith) 19 (s .args .s .lags) in
     (omega arith, (omega arith, omega arith))
 
-put-gains-requires : tie.Need-put-gains-requires
-put-gains-requires c κs =
+put-last-requires : tie.Need-put-last-requires
+put-last-requires c κs =
     let s = c .before .before .before .before .before .before .before .before .before .before .before .before .before .before .before .before .before .before .before .before .before .before .before in
     let a = six s in
     let b = lags s in
@@ -86,16 +86,16 @@ returns c =
     let u = r .before .before .before .before .before .before in
     let t = u .before .before .before .before .before .before .before .before in
     let s = t .args in
-    let w = four-parts (s .room .now) (s .n) (rows className 0 (s .s .classes)) (rows lagName 19 (s .s .lags)) (rows indexName 0 (s .s .«gain_indexes»)) (gainLines (s .s)) in
+    let w = four-parts (s .room .now) (s .n) (rows className 0 (s .s .classes)) (rows lagName 19 (s .s .lags)) (rows indexName 0 (s .s .«gain_indexes»)) (lastLines (s .s) (s .c)) in
     let a = rows-long className (omega arith) 0 (s .s .classes) in
     let b = rows-long lagName (omega arith) 19 (s .s .lags) in
     let d = rows-long indexName (omega arith) 0 (s .s .«gain_indexes») in
-    let g = p .put-gains .ensures .1 .1 in
+    let g = p .put-last .ensures .1 .1 in
     let l0 = six t in
     let l1 = lags t in
     let l2 = indexes t in
-    let fits : p .put-gains .result ≤ s .n + 13859 = omega (arith, q .put-rows3 .ensures .0, r .put-rows2 .ensures .0, u .put-rows .ensures .0) in
-    (p .put-gains .ensures .0 ∙ rw (q .put-rows3 .ensures .0, r .put-rows2 .ensures .0, u .put-rows .ensures .0) (w .0), (p .put-gains .ensures .1 .0 ∙ rw (q .put-rows3 .ensures .0, q .put-rows3 .ensures .1, r .put-rows2 .ensures .0, r .put-rows2 .ensures .1, u .put-rows .ensures .0, u .put-rows .ensures .1) (w .1), fits))
+    let fits : p .put-last .result ≤ s .n + 14010 = omega (arith, q .put-rows3 .ensures .0, r .put-rows2 .ensures .0, u .put-rows .ensures .0) in
+    (p .put-last .ensures .0 ∙ rw (q .put-rows3 .ensures .0, r .put-rows2 .ensures .0, u .put-rows .ensures .0) (w .0), (p .put-last .ensures .1 .0 ∙ rw (q .put-rows3 .ensures .0, q .put-rows3 .ensures .1, r .put-rows2 .ensures .0, r .put-rows2 .ensures .1, u .put-rows .ensures .0, u .put-rows .ensures .1) (w .1), fits))
 
 pub put-subframes-spec : {M : Type 1} → statement M
 put-subframes-spec =
@@ -110,6 +110,6 @@ put-subframes-spec =
     slice-aggregate-put-rows-5
     slice-aggregate-put-rows-6
     put-rows-requires-3
-    put-gains-requires
+    put-last-requires
     same-length
     returns)

@@ -7,8 +7,8 @@ use mir.ValLaws.{toZ-ofZ}
 use Rattle.fixed.specs.Fixed as Fixed
 use Rattle.fixed.specs.Machine.{back}
 use Rattle.core.specs.Core as Spec
-use Rattle.core.proofs.mixed.Statement.{statement}
-use Rattle.core.proofs.mixed.Tie as tie
+use Rattle.core.proofs.mixed_sum.Statement.{statement}
+use Rattle.core.proofs.mixed_sum.Tie as tie
 
 mul-requires : tie.Need-mul-requires
 mul-requires c κs = search needs
@@ -37,24 +37,17 @@ shift-requires-2 c κs = search needs
 fold-requires-2 : tie.Need-fold-requires-2
 fold-requires-2 c κs = search needs
 
-sat-requires : tie.Need-sat-requires
-sat-requires c κs = search needs
-
-hi-requires : tie.Need-hi-requires
-hi-requires c κs = search needs
-
 returns : tie.Need-returns
-unfolding Spec.mixed
+unfolding Spec.mixedSum
 returns c =
-    let t = c .before .sat in
-    let g = c .before .before .fold2 in
-    let h = c .before .before .before .shift2 in
-    let f = c .before .before .before .before .fold in
-    let e : c .hi .result ≡ Fixed.hi (Fixed.sat (Fixed.fold (Fixed.shift (f .result) (pos 1)) (pos 32768))) = cc (back w64 (t .result) (t .ok), back w64 (g .result) (g .ok), back w64 (h .result) (h .ok), back w64 (f .result) (f .ok)) in
-    back w16 (c .hi .result) (c .hi .ok) ∙ e ∙ ap (λ (z : ℤ). Fixed.hi (Fixed.sat (Fixed.fold (Fixed.shift z (pos 1)) (pos 32768)))) (sum-is (c .before .before .before .before))
+    let g = c .fold2 in
+    let h = c .before .shift2 in
+    let f = c .before .before .fold in
+    let e : g .result ≡ Fixed.fold (Fixed.shift (f .result) (pos 1)) (pos 32768) = cc (back w64 (h .result) (h .ok), back w64 (f .result) (f .ok)) in
+    back w64 (g .result) (g .ok) ∙ e ∙ ap (λ (z : ℤ). Fixed.fold (Fixed.shift z (pos 1)) (pos 32768)) (sum-is (c .before .before))
 
-pub mixed-spec : {M : Type 1} → statement M
-mixed-spec =
+pub mixed-sum-spec : {M : Type 1} → statement M
+mixed-sum-spec =
     tie.close
     (tie.spec
     mul-requires
@@ -63,6 +56,4 @@ mixed-spec =
     fold-requires
     shift-requires-2
     fold-requires-2
-    sat-requires
-    hi-requires
     returns)
