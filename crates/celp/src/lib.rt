@@ -61,7 +61,7 @@ pub struct Returned {
 }
 
 // The state that is handed back where the set is refused.
-fn all_zero() -> State
+pub fn all_zero() -> State
     ensures { λ r. ⌜ r ≡ allZero ⌝ }
 {
     State {
@@ -103,7 +103,7 @@ fn all_within(floats: &[f32]) -> bool
 }
 
 // The state rule.
-fn obeys(state: State) -> bool
+pub fn obeys(state: State) -> bool
     ensures { λ r. ⌜ r ≡ obeys state ⌝ }
 {
     if !all_within(&state.residuals) {
