@@ -78,7 +78,7 @@ module _ (words : List ℤ) (bytes : List ℕ) where
         by zero e = absurd (no-frame _ n _ (rw e at h))
         by (suc k) e = mark-refused words bytes s (payload line) 320 (λ q. omega arith)
 
-    refused-line : (n : ℕ) → lineText words bytes s line ≡ refusedText n → lineStep words bytes s line .mark ≡ 0
+    pub refused-line : (n : ℕ) → lineText words bytes s line ≡ refusedText n → lineStep words bytes s line .mark ≡ 0
     unfolding lineText lineStep event
     refused-line n h = by (isFrame line) refl
       where
@@ -103,7 +103,7 @@ module _ (words : List ℤ) (bytes : List ℕ) where
         by zero e = rw e (two (s .mark) (ap (λ (l : List ℕ). getD l 0 0) (rw e at h)))
         by (suc k) e = absurd (no-frame 2 (suc k) xs (sym (rw (e, ne-eqb (suc k) 0 (λ z. omega arith)) at h)))
 
-    two-line : (xs : List ℤ) → lineText words bytes s line ≡ frameText 2 xs → decode words bytes s (payload line) 320 .mark ≡ 2
+    pub two-line : (xs : List ℤ) → lineText words bytes s line ≡ frameText 2 xs → decode words bytes s (payload line) 320 .mark ≡ 2
     unfolding lineText event text
     two-line xs h = by (isFrame line) refl
       where
@@ -112,15 +112,15 @@ module _ (words : List ℤ) (bytes : List ℕ) where
         by false e = absurd (no-frame 2 9 xs (sym (rw e at h)))
 
   -- ---- so the lines are a receiver's calls
-  goes-without : {s : State} {frames : List (List ℕ)} {es : List Event} (gone : List (List ℕ)) → s .mark ≡ 0 → Follows words bytes s frames es → Follows words bytes s (gone ++ frames) es
+  pub goes-without : {s : State} {frames : List (List ℕ)} {es : List Event} (gone : List (List ℕ)) → s .mark ≡ 0 → Follows words bytes s frames es → Follows words bytes s (gone ++ frames) es
   goes-without [] z f = f
   goes-without (frame ∷ more) z f = without z (goes-without more z f)
 
-  sent-follows : {s : State} (line : List ℕ) {frames : List (List ℕ)} {es : List Event} → isFrame line ≡ true → Follows words bytes (lineStep words bytes s line) frames es → Follows words bytes s (payload line ∷ frames) (event line ∷ es)
+  pub sent-follows : {s : State} (line : List ℕ) {frames : List (List ℕ)} {es : List Event} → isFrame line ≡ true → Follows words bytes (lineStep words bytes s line) frames es → Follows words bytes s (payload line ∷ frames) (event line ∷ es)
   unfolding lineStep event
   sent-follows line e f = rw e (Receiver.whole (rw e at f))
 
-  lost-follows : (s : State) (line : List ℕ) {frames : List (List ℕ)} {es : List Event} (gone : List (List ℕ)) (n : ℕ) → lineText words bytes s line ≡ refusedText n → Follows words bytes (lineStep words bytes s line) frames es → Follows words bytes s (gone ++ frames) (event line ∷ es)
+  pub lost-follows : (s : State) (line : List ℕ) {frames : List (List ℕ)} {es : List Event} (gone : List (List ℕ)) (n : ℕ) → lineText words bytes s line ≡ refusedText n → Follows words bytes (lineStep words bytes s line) frames es → Follows words bytes s (gone ++ frames) (event line ∷ es)
   unfolding lineStep
   lost-follows s line gone n e f = let z = refused-line s line n e in between z (goes-without gone z f)
 

@@ -128,7 +128,7 @@ fn hear(words: &[i16], bytes: &[u8], state: State, payload: [u8; 20], out: &mut 
 }
 
 // The state that a missed frame leaves.
-fn missed(state: State) -> State
+pub fn missed(state: State) -> State
     ensures { λ r. ⌜ r ≡ Start.missedFrame state .state ⌝ }
 {
     let r = celp::missed_frame(state);
@@ -136,7 +136,7 @@ fn missed(state: State) -> State
 }
 
 // A line's call: its text goes over the beginning of out.
-fn call(words: &[i16], bytes: &[u8], state: State, line: Line, out: &mut [u8]) -> Said
+pub fn call(words: &[i16], bytes: &[u8], state: State, line: Line, out: &mut [u8]) -> Said
     requires { ⌜ 1283 ≤ length (now out) ⌝ }
     ensures said { λ r. ⌜ r ≡ Feed.called (now (words .entry)) (now (bytes .entry)) state (Recording.event (Held.heldLine line)) ⌝ }
     ensures text { λ _. ⌜ now (out .exit) ≡ over (Recording.lineText (now (words .entry)) (now (bytes .entry)) state (Held.heldLine line)) (now (out .entry)) ⌝ }

@@ -1,0 +1,5 @@
+pub mod Channels
+pub mod Feed
+pub mod Apart
+pub mod Relied
+pub mod Worked
