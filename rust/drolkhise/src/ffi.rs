@@ -1,0 +1,45 @@
+//! The archive's functions as include/drolkhise.h has them, behind functions on slices: all that is `unsafe` of this crate.
+//!
+//! Any lengths and any bytes may be lent. What a call needs of its caller is that each pointer goes with its length, that what it writes is lent for
+//! writing, and that the buffers of one call do not overlap. A slice is such a pointer with such a length, and two slices of which one is `&mut` do
+//! not overlap, so every slice will do. Nothing is kept between calls.
+
+extern "C" {
+    fn drolkhise_reset(tables: *const u8, tables_length: usize, image: *mut u8, image_length: usize) -> u8;
+    fn drolkhise_cold_start(tables: *const u8, tables_length: usize, image: *mut u8, image_length: usize) -> u8;
+    #[rustfmt::skip]
+    fn drolkhise_decode(
+        tables: *const u8,
+        tables_length: usize,
+        image: *mut u8,
+        image_length: usize,
+        payload: *const u8,
+        payload_length: usize,
+        samples: *mut u8,
+        samples_length: usize,
+    ) -> u8;
+    fn drolkhise_missed_frame(image: *mut u8, image_length: usize) -> u8;
+}
+
+pub fn reset(tables: &[u8], image: &mut [u8]) -> u8 {
+    // SAFETY: reads `tables`, writes `image`: each pointer with its own slice's length, and the two do not overlap.
+    unsafe { drolkhise_reset(tables.as_ptr(), tables.len(), image.as_mut_ptr(), image.len()) }
+}
+
+pub fn cold_start(tables: &[u8], image: &mut [u8]) -> u8 {
+    // SAFETY: as for `reset`.
+    unsafe { drolkhise_cold_start(tables.as_ptr(), tables.len(), image.as_mut_ptr(), image.len()) }
+}
+
+pub fn decode(tables: &[u8], image: &mut [u8], payload: &[u8], samples: &mut [u8]) -> u8 {
+    // SAFETY: reads `tables` and `payload`, writes `image` and `samples`: each pointer with its own slice's length. The two that are written overlap
+    // nothing; the two that are only read might be one, which nothing can tell.
+    unsafe {
+        drolkhise_decode(tables.as_ptr(), tables.len(), image.as_mut_ptr(), image.len(), payload.as_ptr(), payload.len(), samples.as_mut_ptr(), samples.len())
+    }
+}
+
+pub fn missed_frame(image: &mut [u8]) -> u8 {
+    // SAFETY: writes `image`, a pointer with its own slice's length.
+    unsafe { drolkhise_missed_frame(image.as_mut_ptr(), image.len()) }
+}

@@ -1,0 +1,67 @@
+"""What the programs make of a recording, and its sound: for tools/wav and tools/page."""
+import array, io, os, struct, subprocess, sys, tempfile, wave
+
+TOOLS = os.path.dirname(os.path.dirname(os.path.abspath(__file__)))
+NAME = os.path.basename(sys.argv[0])  # who says what is wrong
+RATE = 8000  # docs/DECISIONS.md says why
+FRAME = 320
+WHY = {"6": "a padding bit is set", "7": "a code index has no position", "9": "not 40 hexadecimal digits"}
+
+
+def tables_why(tables, number, *named):
+    """Why a table file is refused, in words: with 4 what decode named, the rule and the place."""
+    if number == "1":
+        return "not 15,834 bytes long"
+    which_rule = os.path.join(TOOLS, "which_rule")
+    return subprocess.run([which_rule, tables, *named], stdout=subprocess.PIPE, check=True).stdout.decode().strip()
+
+
+def told(program, tables, recording):
+    """What a program writes of a recording, line by line. It takes its tables from the folder where it is run."""
+    launch = os.path.join(TOOLS, "launch")
+    with tempfile.TemporaryDirectory() as room, open(recording, "rb") as f:
+        os.symlink(os.path.abspath(tables), os.path.join(room, "tables.bin"))
+        with subprocess.Popen([launch, program], stdin=f, stdout=subprocess.PIPE, cwd=room) as ran:
+            for line in ran.stdout:
+                yield line.decode().removesuffix("\n")
+    if ran.returncode != 0:
+        sys.exit(f"{NAME}: {program} did not run to its end (exit status {ran.returncode})")
+
+
+def decoded(tables, recording):
+    """What decode writes of a recording."""
+    for path, what in (tables, "the table file"), (recording, "the recording"):
+        if not os.path.exists(path):
+            sys.exit(f"{NAME}: no file {path}, {what}")
+    lines = list(told("decode", tables, recording))
+    if lines and lines[0].startswith("tables refused"):
+        sys.exit(f"{NAME}: {tables}: {lines[0]}: {tables_why(tables, *lines[0].split(' ')[2:])}")
+    return lines
+
+
+def heard_from_start(recording):
+    """Whether the first line is `+`, which decode answers with nothing."""
+    with open(recording, "rb") as f:
+        return f.readline().removesuffix(b"\n") == b"+"
+
+
+def heard(line):
+    """A line's mark and samples: no mark and silence where it was refused."""
+    if line.startswith("refused"):
+        return None, array.array("h", bytes(2 * FRAME))
+    mark, digits = line.split(" ")
+    samples = array.array("h", bytes.fromhex(digits))
+    if sys.byteorder == "little":
+        samples.byteswap()
+    return int(mark), samples
+
+
+def sound_file(frames):
+    """The bytes of a sound file."""
+    file = io.BytesIO()
+    with wave.open(file, "wb") as w:
+        w.setnchannels(1)
+        w.setsampwidth(2)
+        w.setframerate(RATE)
+        w.writeframes(b"".join(struct.pack(f"<{FRAME}h", *samples) for _, samples in frames))
+    return file.getvalue()
