@@ -1,6 +1,6 @@
--- The April fault. Document 02 names it and does not tell it; what its rules rule out is this. A saved state's slot was taken as free while a player still had use
--- of it: whoever let go first freed it for all, or the count of those who held it went past what a byte holds and began at 0 again. The next save took the slot,
--- and the player went on decoding from another call's state: a state that obeys the rule, so nothing refused it, and the sound was wrong.
+-- The April fault. The first words of nine calls were spoken through the filter of the call before: a saved state had been let go while a player still pointed at it.
+-- Whoever let go first had freed the slot for all, the next save took it, and the player went on decoding from another call's state: one that obeys the rule, so
+-- nothing refused it, and the sound was wrong. A count of users that goes past what a byte holds and begins at 0 again would lead to the same.
 -- Here it cannot happen. A slot has as many users as calls took it less those that let it go, a hold past 255 is refused, and a save takes no slot that has users.
 -- So of every sequence of calls, in any order and with any numbers, on a shelf that began as zeros and that only these calls write:
 --     users-counted   a slot's users are its accepted saves and holds less its accepted lettings-go
