@@ -1,11 +1,16 @@
 -- Saturation changes just the numbers beyond the ends of 32 bits; and a sample that it changed is at an end of 16.
 use native.Mathlib.Omega.{arith}
+use native.Mathlib.Numerals.{add-one}
 use mathlib.Core.Bool.{Bool, true, false, not, cond, _||_, false≢true}
 use mathlib.Core.Path.{_≡_, refl, ap, sym, _∙_, subst}
+use mathlib.Core.List.{List}
+use Prim.Native.Nat.{ℕ, zero, suc, _+_, _-_, _≤_, _<_}
 use lib.Dec.{T, eqb}
+use lib.ListN.{length, getD}
 use lib.IntN.{ℤ, pos, negsuc, natAbs, _+ℤ_, _-ℤ_, +ℤ-idl, +ℤ-invr, -ℤ-+ℤ-cancel}
 use lib.Signed.{ltZ, ltZ-yes, <ℤ-irrefl}
 use borrow.Author.Tests.{eq-eqb, ne-eqb}
+use Rattle.sequence.specs.Count.{one, count, count-none, count-more}
 use Rattle.fixed.specs.Fixed.{residue, signed, wrap, clamp, sat, clips, hi}
 
 -- ---- the test for two numbers that differ
@@ -44,3 +49,34 @@ clipped-end P top bottom z h = go (ltZ z (negsuc 2147483647)) (ltZ (pos 21474836
     go true t e = bottom
     go false true e = top
     go false false e = absurd (false≢true e)
+
+-- ---- so a block without a sample at an end has none that was changed
+unfoldable pub atEnd : ℤ → Bool
+atEnd x = ltZ x (negsuc 32766) || ltZ (pos 32766) x
+
+unfoldable pub ends : List ℤ → ℕ
+ends block = count (λ n. atEnd (getD block n (pos 0))) (length block)
+
+pub changed-at-end : (z : ℤ) → clips z ≡ true → atEnd (hi (sat z)) ≡ true
+unfolding atEnd
+changed-at-end z h = clipped-end (λ (x : ℤ). atEnd x ≡ true) refl refl z h
+
+grows : (test : ℕ → Bool) (m d : ℕ) → count test m ≤ count test (m + d)
+grows test m zero = let e : m + 0 ≡ m = omega arith in omega (arith, ap (count test) e)
+grows test m (suc d) = let e : m + suc d ≡ m + d + 1 = omega arith in omega (arith, grows test m d, count-more test (m + d), ap (count test) e)
+
+pub no-end : (block : List ℤ) → ends block ≡ 0 → (k : ℕ) → k < length block → atEnd (getD block k (pos 0)) ≡ true → ⊥
+unfolding ends
+no-end block e k h t =
+    let test : ℕ → Bool = λ (n : ℕ). atEnd (getD block n (pos 0)) in
+    let d : k + 1 + (length block - (k + 1)) ≡ length block = omega arith in
+    absurd (omega (arith, e, grows test (k + 1) (length block - (k + 1)), ap (count test) d, count-more test k, ap one t))
+
+failed : (b : Bool) → (b ≡ true → ⊥) → one b ≡ 0
+failed true h = absurd (h refl)
+failed false h = refl
+
+-- a test that is passed nowhere
+pub count-nowhere : (test : ℕ → Bool) (n : ℕ) → ((k : ℕ) → k < n → test k ≡ true → ⊥) → count test n ≡ 0
+count-nowhere test zero h = count-none test
+count-nowhere test (suc n) h = omega (arith, count-nowhere test n (λ k p. h k (omega arith)), count-more test n, ap (count test) (add-one n), failed (test n) (h n (omega arith)))

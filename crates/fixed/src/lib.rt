@@ -10,6 +10,7 @@ ghost use Rattle.sequence.specs.Total.{total};
 ghost use Rattle.fixed.specs.Wrap.{REACH};
 ghost use Rattle.fixed.specs.Fixed as Fixed;
 ghost use Rattle.fixed.specs.Runs as Runs;
+ghost use Rattle.fixed.specs.Clips as Clips;
 
 // What the reciprocal divides: 16383 in the high half.
 const NUMERATOR: i64 = 16383 * 65536;
@@ -57,6 +58,25 @@ pub fn one(b: bool) -> u8
     ensures { λ r. ⌜ r ≡ Count.one b ⌝ }
 {
     if b { 1 } else { 0 }
+}
+
+// Whether x is at an end of 16 bits.
+fn at_end(x: i16) -> bool
+    ensures { λ r. ⌜ r ≡ Clips.atEnd x ⌝ }
+{
+    if x < -32767 { true } else { 32766 < x }
+}
+
+// How many samples of a block are: where none is, saturation changed none. Eight are looked at at a time.
+pub fn ends(block: &[i16]) -> u8
+    requires { ⌜ length (now block) ≤ 80 ⌝ }
+    ensures { λ r. ⌜ r ≡ Clips.ends (now (block .entry)) ⌝ }
+{
+    let mut found = 0u8;
+    for n in 0..block.len() {
+        found += one(at_end(block[n]));
+    }
+    found
 }
 
 // The low half of an accumulator.

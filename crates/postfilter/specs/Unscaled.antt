@@ -4,12 +4,12 @@ use native.Mathlib.Numerals.{add-one}
 use mathlib.Core.Bool.{Bool, true, false, not, _||_, _&&_}
 use mathlib.Core.Path.{_≡_, refl, ap, sym, _∙_}
 use mathlib.Core.List.{List, [], _∷_, map}
-use Prim.Native.Nat.{ℕ, zero, suc, _+_, _<_}
+use Prim.Native.Nat.{ℕ, zero, suc, _+_, _≤_, _<_}
 use lib.IntN.{ℤ, pos, negsuc}
 use lib.ListN.{length, getD, take}
 use Rattle.sequence.specs.Count.{one, count, count-none, count-more}
 use Rattle.fixed.specs.Fixed.{residue, signed, wrap, clamp, acc, fold, clips, trunc32, mul, shift}
-use Rattle.fixed.specs.Clips.{clipped-end}
+use Rattle.fixed.specs.Clips.{clipped-end, atEnd, ends, changed-at-end, no-end, count-nowhere}
 use Rattle.postfilter.specs.declared.Filtered.{Filtered}
 use Rattle.postfilter.specs.declared.OutputFilter.{OutputFilter}
 use Rattle.postfilter.specs.declared.Passed.{Passed}
@@ -121,3 +121,40 @@ clipped-parts words filter block =
         ap one (by-two (tapsOf words) (state n) (getD block n (pos 0)))
         ∙ split (clips (roundedSum (sectionSum (tapsOf words) (state n) 0 (getD block n (pos 0))) (pos 2))) (scalingClips (filterSample (tapsOf words) (state n) (getD block n (pos 0)) .value))
         ∙ ap (λ (z : ℤ). one (firstClips (tapsOf words) (state n) (getD block n (pos 0))) + one (scalingClips z)) (sym (output-at words filter block n h))
+
+-- ---- and there are none where no sample is at an end behind the first section, and none at last
+-- words whose first n are what comes of each sample of a block behind the first section
+abbrev pub Firsts : List ℤ → OutputFilter → List ℤ → List ℤ → ℕ → Type 0
+Firsts words filter block firsts n = (k : ℕ) → k < n → getD firsts k (pos 0) ≡ rounded (sectionSum (tapsOf words) (after words filter (take k block)) 0 (getD block k (pos 0))) (pos 2)
+
+scaled-at : (words : List ℤ) (filter : OutputFilter) (block : List ℤ) (n : ℕ) → n < length block → getD (Postfilter.outputs words filter block) n (pos 0) ≡ scaled (filterSample (tapsOf words) (after words filter (take n block)) (getD block n (pos 0)) .value)
+unfolding Postfilter.outputs Postfilter.filterSample after filterSample
+scaled-at words filter [] n h = absurd (omega arith)
+scaled-at words filter (x ∷ xs) zero h = refl
+scaled-at words filter (x ∷ xs) (suc n) h = scaled-at words (filterSample (tapsOf words) filter x .filter) xs n (omega arith)
+
+neither : (a b : Bool) → (a ≡ true → ⊥) → (b ≡ true → ⊥) → (a || b) ≡ true → ⊥
+neither true b f g h = f refl
+neither false b f g h = g h
+
+section-end : (sum : ℤ) → clips (roundedSum sum (pos 2)) ≡ true → atEnd (rounded sum (pos 2)) ≡ true
+section-end sum h = ap atEnd (rounded-sum sum (pos 2)) ∙ changed-at-end (roundedSum sum (pos 2)) h
+
+scaling-end : (value : ℤ) → scalingClips value ≡ true → atEnd (scaled value) ≡ true
+unfolding scalingClips scaled
+scaling-end value h = ap atEnd (rounded-sum (acc (mul value (pos 19661))) (pos 1)) ∙ changed-at-end (roundedSum (acc (mul value (pos 19661))) (pos 1)) h
+
+pub none-clipped : (words : List ℤ) (filter : OutputFilter) (block firsts : List ℤ) → Firsts words filter block firsts (length block) → length block ≤ length firsts → ends firsts ≡ 0 → ends (Postfilter.outputs words filter block) ≡ 0 → Postfilter.clipped words filter block ≡ 0
+unfolding Postfilter.clipped
+none-clipped words filter block firsts f h e g = count-nowhere _ (length block) nowhere
+  where
+    state : ℕ → OutputFilter
+    state n = after words filter (take n block)
+
+    nowhere : (k : ℕ) → k < length block → Postfilter.sampleClips (tapsOf words) (state k) (getD block k (pos 0)) ≡ true → ⊥
+    nowhere k p t =
+        let l = Postfilter.length-outputs words filter block in
+        neither (clips (roundedSum (sectionSum (tapsOf words) (state k) 0 (getD block k (pos 0))) (pos 2))) (scalingClips (filterSample (tapsOf words) (state k) (getD block k (pos 0)) .value))
+        (λ a. no-end firsts e k (omega arith) (ap atEnd (f k p) ∙ section-end _ a))
+        (λ a. no-end (Postfilter.outputs words filter block) g k (omega arith) (ap atEnd (scaled-at words filter block k p) ∙ scaling-end _ a))
+        (sym (by-two (tapsOf words) (state k) (getD block k (pos 0))) ∙ t)

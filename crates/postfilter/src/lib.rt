@@ -10,6 +10,7 @@ ghost use Rattle.fixed.specs.Fixed as Fixed;
 ghost use Rattle.postfilter.specs.Postfilter as Postfilter;
 ghost use Rattle.postfilter.specs.Unscaled as Unscaled;
 use fixed::clips;
+use fixed::ends;
 use fixed::fold;
 use fixed::hi;
 use fixed::mul;
@@ -17,6 +18,7 @@ use fixed::one;
 use fixed::sat;
 use fixed::shift;
 use fixed::trunc32;
+use slices::copy;
 use tables::OUT_FIR;
 use tables::OUT_IIR;
 use tables::word;
@@ -172,27 +174,83 @@ fn numbers_moved(line: [i32; 6], first: i32, second: i32) -> [i32; 6]
 }
 
 // Advance both sections; the scaling comes after the block.
-fn filter_sample(taps: Taps, filter: OutputFilter, value: i16) -> Passed
-    ensures { λ r. ⌜ r ≡ Unscaled.passed taps filter value ⌝ }
+fn filter_sample(taps: Taps, filter: OutputFilter, value: i16) -> Step
+    ensures { λ r. ⌜ r ≡ Unscaled.filterSample taps filter value ⌝ }
 {
-    let sum = section_sum(taps, filter, 0, value);
-    let first = section_of(sum);
+    let first = section_of(section_sum(taps, filter, 0, value));
     let second = section_of(section_sum(taps, filter, 3, first.value));
     let words = filter.fir;
     let numbers = filter.iir;
     let fir = words_moved(words, value, first.value);
     let iir = numbers_moved(numbers, first.memory, second.memory);
-    Passed {
-        step: Step {
-            filter: OutputFilter { fir: fir, iir: iir },
-            value: second.value,
-        },
-        clips: first_clips(sum, second.value),
+    Step {
+        filter: OutputFilter { fir: fir, iir: iir },
+        value: second.value,
     }
 }
 
-// Run a block through the two sections, without the scaling.
-fn sections(filter: OutputFilter, words: &[i16], block: &mut [i16]) -> Filtered
+// Run a block through the two sections, without the scaling, and keep what comes of each sample behind the first: it is the fourth word of the delay lines.
+fn sections(
+    filter: OutputFilter,
+    words: &[i16],
+    block: &mut [i16],
+    firsts: &mut [i16],
+) -> OutputFilter
+    requires { ⌜ (length (now words) ≡ WORDS) × (length (now block) ≤ length (now firsts)) ⌝ }
+    ensures outputs { λ _. ⌜ now (block .exit) ≡ Unscaled.outputs (now (words .entry)) filter (now (block .entry)) ⌝ }
+    ensures after { λ r. ⌜ r ≡ Postfilter.after (now (words .entry)) filter (now (block .entry)) ⌝ }
+    ensures firsts { λ _. ⌜ Unscaled.Firsts (now (words .entry)) filter (now (block .entry)) (now (firsts .exit)) (length (now (block .entry))) ⌝ }
+{
+    let taps = taps_of(words);
+    let mut state = filter;
+    let mut n = 0;
+    while n < block.len() {
+        let step = filter_sample(taps, state, block[n]);
+        let y = step.value;
+        block[n] = y;
+        state = step.filter;
+        let line = state.fir;
+        let first = line[3];
+        firsts[n] = first;
+        n += 1;
+    }
+    state
+}
+
+// The final output scaling.
+fn scaled(value: i16) -> i16
+    ensures { λ r. ⌜ r ≡ Postfilter.scaled value ⌝ }
+{
+    rounded(forward(0, value, OUT_SCALE), 1)
+}
+
+// Scale a block: a loop of its own, since what the sections carry from sample to sample would keep it to one at a time.
+fn scale(block: &mut [i16])
+    ensures { λ _. ⌜ now (block .exit) ≡ map Postfilter.scaled (now (block .entry)) ⌝ }
+{
+    let mut n = 0;
+    while n < block.len() {
+        let y = scaled(block[n]);
+        block[n] = y;
+        n += 1;
+    }
+}
+
+// A sample through both sections, and whether it counts by the first.
+fn pass(taps: Taps, filter: OutputFilter, value: i16) -> Passed
+    ensures { λ r. ⌜ r ≡ Unscaled.passed taps filter value ⌝ }
+{
+    let step = filter_sample(taps, filter, value);
+    let sum = section_sum(taps, filter, 0, value);
+    let counts = first_clips(sum, step.value);
+    Passed {
+        step: step,
+        clips: counts,
+    }
+}
+
+// The sections again, with the samples that count by the first.
+fn counted(filter: OutputFilter, words: &[i16], block: &mut [i16]) -> Filtered
     requires { ⌜ (length (now words) ≡ WORDS) × (length (now block) ≤ 80) ⌝ }
     ensures outputs { λ _. ⌜ now (block .exit) ≡ Unscaled.outputs (now (words .entry)) filter (now (block .entry)) ⌝ }
     ensures filtered { λ r. ⌜ r ≡ Unscaled.filtered (now (words .entry)) filter (now (block .entry)) ⌝ }
@@ -202,7 +260,7 @@ fn sections(filter: OutputFilter, words: &[i16], block: &mut [i16]) -> Filtered
     let mut clipped = 0u8;
     let mut n = 0;
     while n < block.len() {
-        let passed = filter_sample(taps, state, block[n]);
+        let passed = pass(taps, state, block[n]);
         let step = passed.step;
         let y = step.value;
         block[n] = y;
@@ -216,42 +274,49 @@ fn sections(filter: OutputFilter, words: &[i16], block: &mut [i16]) -> Filtered
     }
 }
 
-// The final output scaling.
-fn scaled(value: i16) -> i16
-    ensures { λ r. ⌜ r ≡ Postfilter.scaled value ⌝ }
-{
-    rounded(forward(0, value, OUT_SCALE), 1)
-}
-
-// Scale a block: a loop of its own, since what the sections carry from sample to sample would keep it to one at a time. How many samples saturation changed is the answer.
-fn scale(block: &mut [i16]) -> u8
+// How many samples the scaling's saturation changes.
+fn scaling_clipped(block: &[i16]) -> u8
     requires { ⌜ length (now block) ≤ 80 ⌝ }
-    ensures samples { λ _. ⌜ now (block .exit) ≡ map Postfilter.scaled (now (block .entry)) ⌝ }
-    ensures clipped { λ r. ⌜ r ≡ Unscaled.scalingClipped (now (block .entry)) ⌝ }
+    ensures { λ r. ⌜ r ≡ Unscaled.scalingClipped (now (block .entry)) ⌝ }
 {
     let mut clipped = 0u8;
-    let mut n = 0;
-    while n < block.len() {
-        let x = block[n];
-        let y = scaled(x);
-        block[n] = y;
-        clipped += one(scaling_clips(x));
-        n += 1;
+    for n in 0..block.len() {
+        clipped += one(scaling_clips(block[n]));
     }
     clipped
 }
 
-// Run a block of at most 80 samples through the two sections, and scale what comes of it.
+// At how many samples of a block saturation changes a value; the block is used up.
+fn clipped(filter: OutputFilter, words: &[i16], block: &mut [i16]) -> u8
+    requires { ⌜ (length (now words) ≡ WORDS) × (length (now block) ≤ 80) ⌝ }
+    ensures { λ r. ⌜ r ≡ Postfilter.clipped (now (words .entry)) filter (now (block .entry)) ⌝ }
+{
+    let left = counted(filter, words, block);
+    left.clipped + scaling_clipped(&block[..])
+}
+
+// Run a block of at most 80 samples through the two sections, and scale what comes of it. What saturation changed is at an end of 16 bits: only a block with
+// such a sample, behind the first section or at last, is run again to be counted.
 pub fn run(filter: OutputFilter, words: &[i16], block: &mut [i16]) -> Filtered
     requires { ⌜ (length (now words) ≡ WORDS) × (length (now block) ≤ 80) ⌝ }
     ensures outputs { λ _. ⌜ now (block .exit) ≡ Postfilter.outputs (now (words .entry)) filter (now (block .entry)) ⌝ }
     ensures filtered { λ r. ⌜ r ≡ Postfilter.filtered (now (words .entry)) filter (now (block .entry)) ⌝ }
 {
-    let left = sections(filter, words, block);
-    let scaled = scale(block);
-    let state = left.filter;
+    let count = block.len();
+    let mut saved = [0i16; 80];
+    copy(&mut saved[..count], &block[..]);
+    let mut firsts = [0i16; 80];
+    let state = sections(filter, words, block, &mut firsts[..]);
+    scale(block);
+    if ends(&firsts[..]) + ends(&block[..]) == 0 {
+        return Filtered {
+            filter: state,
+            clipped: 0,
+        };
+    }
+    let clipped = clipped(filter, words, &mut saved[..count]);
     Filtered {
         filter: state,
-        clipped: left.clipped + scaled,
+        clipped,
     }
 }

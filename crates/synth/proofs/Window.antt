@@ -1,13 +1,18 @@
 -- The array W holds the ten outputs before the block and those so far: what one output more does to it and to the outputs O.
 use native.Mathlib.Omega.{arith}
 use native.Mathlib.Numerals.{add-one}
+use native.Mathlib.Nat.{eq-or-lt-of-le}
+use mathlib.Core.Bool.{true}
+use mathlib.Core.Logic.{⊎-elim}
 use mathlib.Core.List.{List, [], _∷_, _++_}
 use mathlib.Core.Path.{_≡_, ap, sym, _∙_}
 use lib.IntN.{ℤ, pos}
-use lib.ListN.{getD, length, take, drop, set, length-append, length-set, drop-of-length-le}
-use lib.Seq.{take-add, drop-at, length-take-le, take-suc-set, drop-append-le, take-at, take-all}
+use lib.ListN.{getD, length, take, drop, set, length-append, length-drop, length-set, drop-of-length-le, List·getD-append}
+use lib.Seq.{take-add, drop-at, length-take-le, take-suc-set, drop-append-le, take-at, take-all, getD-drop, getD-append-seam}
 use Prim.Native.Nat.{ℕ, zero, suc, _≤_, _<_, _-_, _+_}
-use Rattle.synth.specs.Synth.{sample, window, synthesis, memory}
+use Rattle.fixed.specs.Fixed.{clips}
+use Rattle.fixed.specs.Clips.{atEnd, ends, changed-at-end, no-end, count-nowhere}
+use Rattle.synth.specs.Synth.{sample, sample-sum, sum, window, synthesis, memory, clipped}
 
 length-window : (a m xs : List ℤ) (n : ℕ) → length m ≡ 10 → length (window a m xs n) ≡ n + 10
 unfolding window
@@ -68,3 +73,31 @@ module _ (a m xs : List ℤ) (sized : length m ≡ 10) where
   filtered-end W O n short f p =
       let e : n ≡ length xs = omega arith in
       (sym (take-all (length xs) O (omega arith)) ∙ rw e at (f .4), last-ten W (length xs) (omega arith) ∙ ap (drop (length xs)) (rw e at (f .2)))
+
+-- ---- output k, of n; and where none is at an end, none was changed
+at-window : (a m xs : List ℤ) (n k : ℕ) → length m ≡ 10 → k < n → getD (window a m xs n) (10 + k) (pos 0) ≡ sample a (drop k (window a m xs k)) (getD xs k (pos 0))
+unfolding window
+at-window a m xs zero k e h = absurd (omega arith)
+at-window a m xs (suc n) k e h =
+    let w : List ℤ = window a m xs n in
+    let y : ℤ = sample a (drop n w) (getD xs n (pos 0)) in
+    let l : length w ≡ n + 10 = length-window a m xs n e in
+    ⊎-elim
+    (λ (d : k ≡ n). let p : 10 + k ≡ length w = omega (arith, l, d) in ap (λ (i : ℕ). getD (w ++ (y ∷ [])) i (pos 0)) p ∙ getD-append-seam w y [] (pos 0) ∙ ap (λ (i : ℕ). sample a (drop i (window a m xs i)) (getD xs i (pos 0))) (sym d))
+    (λ (d : k < n). List·getD-append w (y ∷ []) (pos 0) (10 + k) (omega (arith, l)) ∙ at-window a m xs n k e d)
+    (eq-or-lt-of-le (omega arith))
+
+pub none-clipped : (a m xs : List ℤ) → length m ≡ 10 → ends (synthesis a m xs) ≡ 0 → clipped a m xs ≡ 0
+unfolding synthesis clipped
+none-clipped a m xs e h = count-nowhere _ (length xs) nowhere
+  where
+    w : List ℤ
+    w = window a m xs (length xs)
+
+    sized : length (drop 10 w) ≡ length xs
+    sized = length-drop 10 w ∙ omega (arith, length-window a m xs (length xs) e)
+
+    nowhere : (k : ℕ) → k < length xs → clips (sum a (drop k (window a m xs k)) (getD xs k (pos 0))) ≡ true → ⊥
+    nowhere k p t =
+        no-end (drop 10 w) h k (omega (arith, sized))
+        (ap atEnd (getD-drop 10 w k (pos 0) ∙ at-window a m xs (length xs) k e p ∙ sample-sum a (drop k (window a m xs k)) (getD xs k (pos 0))) ∙ changed-at-end (sum a (drop k (window a m xs k)) (getD xs k (pos 0))) t)

@@ -1,16 +1,11 @@
 -- Each call as it is defined, the last first.
 use borrow.Author.Needs.{needs}
-use mathlib.Core.Bool.{not, _&&_}
 use mathlib.Core.Path.{_≡_, sym, _∙_, ap}
-use lib.IntN.{ℤ, pos}
 use mir.Syntax.{w16, w32, w64}
 use mir.Val.{SFits, toZ, ofZ}
 use mir.ValLaws.{toZ-ofZ}
-use Rattle.fixed.specs.Fixed as Fixed
 use Rattle.fixed.specs.Machine.{back}
-use Rattle.postfilter.specs.declared.OutputFilter.{OutputFilter}
 use Rattle.postfilter.specs.declared.Section.{Section}
-use Rattle.postfilter.specs.declared.Taps.{Taps}
 use Rattle.postfilter.specs.Postfilter as Postfilter
 use Rattle.postfilter.specs.Unscaled as Unscaled
 use Rattle.postfilter.proofs.filter_sample.Statement.{statement}
@@ -33,15 +28,6 @@ words-moved-requires c κs = search needs
 
 numbers-moved-requires : tie.Need-numbers-moved-requires
 numbers-moved-requires c κs = search needs
-
-first-clips-requires : tie.Need-first-clips-requires
-first-clips-requires c κs = search needs
-
--- the test by what the sections gave
-first-by : (taps : Taps) (filter : OutputFilter) (value : ℤ) (first second : Section) → first ≡ Postfilter.filterSection taps filter 0 value → second ≡ Postfilter.filterSection taps filter 3 (first .value)
-    → (Fixed.clips (Postfilter.roundedSum (Postfilter.sectionSum taps filter 0 value) (pos 2)) && not (Unscaled.scalingClips (second .value))) ≡ Unscaled.firstClips taps filter value
-unfolding Unscaled.firstClips Unscaled.filterSample
-first-by taps filter value first second e f = λ i. Fixed.clips (Postfilter.roundedSum (Postfilter.sectionSum taps filter 0 value) (pos 2)) && not (Unscaled.scalingClips ((f ∙ (λ j. Postfilter.filterSection taps filter 3 (e j .value))) i .value))
 
 -- the two sections
 module _ (c : tie.After-section-of2) where
@@ -70,9 +56,9 @@ module _ (c : tie.After-section-of2) where
       ∙ sym (Unscaled.section-is (s .args .taps) (s .args .filter) 3 (first .value))
 
 returns : tie.Need-returns
-unfolding Unscaled.passed Unscaled.filterSample Postfilter.filterSample
+unfolding Unscaled.filterSample Postfilter.filterSample
 returns c =
-    let n = c .before .before .before in
+    let n = c .before in
     let w = n .before .before .before in
     let b = w .before .before .before .before in
     let first = b .before .before .before .section-of .result in
@@ -82,11 +68,7 @@ returns c =
     let u : SFits w32 (second .memory) = search needs in
     let f : w .words-moved .result ≡ Postfilter.moved (s b .args .filter .fir) (s b .args .value) (first .value) = simp (toZ-ofZ w16 _ (s b .fits .value), toZ-ofZ w16 _ (value-fits b)) at (w .words-moved .ensures) in
     let r : n .numbers-moved .result ≡ Postfilter.moved (s b .args .filter .iir) (first .memory) (second .memory) = simp (toZ-ofZ w32 _ m, toZ-ofZ w32 _ u) at (n .numbers-moved .ensures) in
-    let t : c .first-clips .result ≡ (Fixed.clips (Postfilter.roundedSum (Postfilter.sectionSum (s b .args .taps) (s b .args .filter) 0 (s b .args .value)) (pos 2)) && not (Unscaled.scalingClips (second .value))) =
-    simp (sum-is b, toZ-ofZ w16 _ v) at (c .first-clips .ensures) in
-    let q : c .first-clips .result ≡ Unscaled.firstClips (s b .args .taps) (s b .args .filter) (s b .args .value) =
-    t ∙ first-by (s b .args .taps) (s b .args .filter) (s b .args .value) first second (first-is b) (second-is b) in
-    rw (toZ-ofZ w16 (second .value) v, q) (simp (f, r, second-is b, first-is b))
+    rw (toZ-ofZ w16 (second .value) v) (simp (f, r, second-is b, first-is b))
 
 pub filter-sample-spec : {M : Type 1} → statement M
 filter-sample-spec =
@@ -98,5 +80,4 @@ filter-sample-spec =
     section-of-requires-2
     words-moved-requires
     numbers-moved-requires
-    first-clips-requires
     returns)
