@@ -22,7 +22,9 @@ enum drolkhise_length {
     DROLKHISE_TABLES = 15834, /* the table file: 5,963 words of 16 bits, low byte first, then 3,908 bytes; only read */
     DROLKHISE_IMAGE = 525,    /* the image: all that the decoder carries from one frame of a call to the next; read and written */
     DROLKHISE_PAYLOAD = 20,   /* a frame; only read */
-    DROLKHISE_SAMPLES = 640   /* room for 320 samples of 16 bits with a sign, low byte first; only written */
+    DROLKHISE_SAMPLES = 640,  /* room for 320 samples of 16 bits with a sign, low byte first; only written */
+    DROLKHISE_RECORDS = 80,   /* the shelf's sixteen slot records, of 5 bytes each; read and written */
+    DROLKHISE_SHELF = 16 * DROLKHISE_IMAGE /* the shelf's images, one for each slot; read and written */
 };
 
 /* How many frames one call of drolkhise_decode_frames may have. */
@@ -38,6 +40,10 @@ enum { DROLKHISE_MARK = DROLKHISE_IMAGE - 1 };
 enum drolkhise_refusal {
     DROLKHISE_ACCEPTED = 0,
     DROLKHISE_IMAGE_LENGTH = 11,  /* the image is not 525 bytes long */
+    DROLKHISE_SHELF_LENGTH = 12,  /* the shelf's records or its images, or the room for a slot's number, are of another length */
+    DROLKHISE_NO_SLOT = 13,       /* the slot is none of 0 to 15, or has no users */
+    DROLKHISE_SLOT_FULL = 14,     /* no slot is free for a save, or the slot to be held has 255 users */
+    DROLKHISE_NO_FRAME = 15,      /* no save is held at or below the frame that is sought, or the recording has no such frame */
     DROLKHISE_TABLES_LENGTH = 1,  /* the tables are not 15,834 bytes long */
     DROLKHISE_SAMPLES_LENGTH = 2, /* the room for samples is not 640 bytes long, of several frames that for samples or for numbers not as long as they ask */
     DROLKHISE_PAYLOAD_LENGTH = 3, /* the frame is not 20 bytes long, or several are not 1 to 64 frames */
@@ -70,6 +76,35 @@ uint8_t drolkhise_decode_frames(const uint8_t *tables, size_t tables_length, uin
 /* A frame of the call that did not arrive, or several together: writes only the mark, 0, also into an image that is no decoder's (5); with 11 nothing. */
 uint8_t drolkhise_missed_frame(uint8_t *image, size_t image_length);
 
+/* The shelf keeps up to sixteen images, so that a player can go back in a call or let several listeners stand at different frames of it. It is two buffers
+ * that the caller lends, both zeros at first: the records, for each slot how many use it (1 byte) and the number of the frame that its image is to be decoded
+ * with (4 bytes, low byte first); and the images. Whoever saves an image is its slot's first user. Whoever else is to use it holds the slot, and each user lets
+ * go of it once. While a slot has users no save takes it, so that a fetch gives exactly the image that was saved there, to each of them; when the last has let
+ * go, the slot is free, and a later save writes over it. Rely on that where only these functions write to both buffers, and let go of a slot only as often as
+ * you saved and held it: the count cannot know whose letting-go it was. Two threads need a lock for the shelf. */
+
+/* Saves an image in the lowest slot without users, for one user, with the number of the frame that it is to be decoded with, and writes the slot, 0 to 15, to
+ * the one byte of `slot`. Refused (11, 12, 14, 5) it writes nothing. */
+uint8_t drolkhise_shelf_save(uint8_t *records, size_t records_length, uint8_t *images, size_t images_length, const uint8_t *image, size_t image_length,
+                             uint32_t frame, uint8_t *slot, size_t slot_length);
+
+/* One user more of a slot that has users, up to 255. Refused (12, 13, 14) it writes nothing. */
+uint8_t drolkhise_shelf_hold(uint8_t *records, size_t records_length, const uint8_t *images, size_t images_length, uint32_t slot);
+
+/* One user fewer. Refused (12, 13) it writes nothing. */
+uint8_t drolkhise_shelf_let_go(uint8_t *records, size_t records_length, const uint8_t *images, size_t images_length, uint32_t slot);
+
+/* Writes the image that was saved in a slot that has users. Refused (12, 13, 5) it writes an image of zeros; with 11 nothing. */
+uint8_t drolkhise_shelf_fetch(const uint8_t *records, size_t records_length, const uint8_t *images, size_t images_length, uint32_t slot, uint8_t *image,
+                              size_t image_length);
+
+/* Writes the image that frame `frame` of a recording is to be decoded with: that of the held save with the largest frame number not above it (of equal ones in
+ * the lowest slot), decoded forward over the lines between, missed and refused ones too. The recording is its text, of any length; its frames are its lines,
+ * from 0, a first line `+` not counted. If each save is this recording's image before the frame of its number, what is written is the image of playing it
+ * from its start. Nothing but the image is written. Refused (12, 15, 1, 4, 5) it becomes zeros; with 11 nothing is written. */
+uint8_t drolkhise_seek(const uint8_t *tables, size_t tables_length, const uint8_t *records, size_t records_length, const uint8_t *images, size_t images_length,
+                       const uint8_t *recording, size_t recording_length, uint32_t frame, uint8_t *image, size_t image_length);
+
 /* What a call answered, in words. */
 static inline const char *drolkhise_refusal_text(uint8_t number) {
     switch (number) {
@@ -82,6 +117,10 @@ static inline const char *drolkhise_refusal_text(uint8_t number) {
     case DROLKHISE_PADDING: return "a padding bit of the frame is set";
     case DROLKHISE_CODE_INDEX: return "a code index of the frame has no position";
     case DROLKHISE_IMAGE_LENGTH: return "the image is not 525 bytes long";
+    case DROLKHISE_SHELF_LENGTH: return "the shelf's records or images, or the room for a slot, are of another length";
+    case DROLKHISE_NO_SLOT: return "there is no such slot, or it has no users";
+    case DROLKHISE_SLOT_FULL: return "no slot is free, or the slot has 255 users";
+    case DROLKHISE_NO_FRAME: return "no save is at or below the frame, or the recording has no such frame";
     default: return "no such refusal";
     }
 }

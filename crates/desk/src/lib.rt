@@ -1,7 +1,13 @@
 // The decoder's calls for a player in C, over memory that it lends: the table file's bytes, a state's image, a payload, room for samples.
 ghost use mathlib.Core.Path.{_≡_};
 ghost use lib.ListN.{length};
+ghost use Rattle.shelf.specs.Shelf as Shelf;
+ghost use Rattle.desk_shelf.specs.Calls as Calls;
+ghost use Rattle.seek.specs.Seek as Seek;
 ghost use Rattle.desk.specs.Desk as Desk;
+ghost use Rattle.desk.specs.Seeking as Seeking;
+use seek::Sought;
+use slots::Slot;
 
 // The length of the table file, where its last bytes begin, and how many bytes the samples of a frame take.
 const TABLES: usize = 15834;
@@ -190,4 +196,96 @@ pub extern "C" fn drolkhise_missed_frame(image: &mut [u8]) -> u8
     let r = celp::missed_frame(state);
     image[MARK] = 0;
     r.number
+}
+
+// The shelf: the calls of desk_shelf under C names.
+
+#[no_mangle]
+pub extern "C" fn drolkhise_shelf_save(
+    records: &mut [u8],
+    images: &mut [u8],
+    image: &[u8],
+    frame: u32,
+    slot: &mut [u8],
+) -> u8
+    ensures number { λ r. ⌜ r ≡ Shelf.number (Calls.save (now (records .entry)) (length (now (images .entry))) (now (image .entry)) frame (length (now (slot .entry)))) ⌝ }
+    ensures records { λ _. ⌜ now (records .exit) ≡ Calls.recordsAfter (Calls.save (now (records .entry)) (length (now (images .entry))) (now (image .entry)) frame (length (now (slot .entry)))) (now (records .entry)) ⌝ }
+    ensures images { λ _. ⌜ now (images .exit) ≡ Shelf.imagesAfter (Calls.save (now (records .entry)) (length (now (images .entry))) (now (image .entry)) frame (length (now (slot .entry)))) (Calls.savedImage (now (image .entry))) (now (images .entry)) ⌝ }
+    ensures slot { λ _. ⌜ now (slot .exit) ≡ Calls.slotAfter (Calls.save (now (records .entry)) (length (now (images .entry))) (now (image .entry)) frame (length (now (slot .entry)))) (now (slot .entry)) ⌝ }
+{
+    desk_shelf::save(records, images, image, frame, slot)
+}
+
+#[no_mangle]
+pub extern "C" fn drolkhise_shelf_hold(records: &mut [u8], images: &[u8], slot: u32) -> u8
+    ensures number { λ r. ⌜ r ≡ Shelf.number (Calls.hold (now (records .entry)) (length (now (images .entry))) slot) ⌝ }
+    ensures records { λ _. ⌜ now (records .exit) ≡ Calls.recordsAfter (Calls.hold (now (records .entry)) (length (now (images .entry))) slot) (now (records .entry)) ⌝ }
+{
+    desk_shelf::hold(records, images, slot)
+}
+
+#[no_mangle]
+pub extern "C" fn drolkhise_shelf_let_go(records: &mut [u8], images: &[u8], slot: u32) -> u8
+    ensures number { λ r. ⌜ r ≡ Shelf.number (Calls.letGo (now (records .entry)) (length (now (images .entry))) slot) ⌝ }
+    ensures records { λ _. ⌜ now (records .exit) ≡ Calls.recordsAfter (Calls.letGo (now (records .entry)) (length (now (images .entry))) slot) (now (records .entry)) ⌝ }
+{
+    desk_shelf::let_go(records, images, slot)
+}
+
+#[no_mangle]
+pub extern "C" fn drolkhise_shelf_fetch(
+    records: &[u8],
+    images: &[u8],
+    slot: u32,
+    image: &mut [u8],
+) -> u8
+    ensures number { λ r. ⌜ r ≡ Calls.fetchNumber (now (records .entry)) (now (images .entry)) slot (length (now (image .entry))) ⌝ }
+    ensures image { λ _. ⌜ now (image .exit) ≡ Calls.fetchImage (now (records .entry)) (now (images .entry)) slot (now (image .entry)) ⌝ }
+{
+    desk_shelf::fetch(records, images, slot, image)
+}
+
+// By the call on states; `none` makes a set that is refused with 1, in its place among the refusals.
+fn sought(tables: &[u8], slots: [Slot; 16], images: &[u8], recording: &[u8], k: u32) -> Sought
+    ensures { λ r. ⌜ r ≡ Seek.seek (Desk.words (now (tables .entry))) (Desk.bytes (now (tables .entry))) slots (now (images .entry)) (now (recording .entry)) k ⌝ }
+{
+    if tables.len() != TABLES {
+        let none = [0i16; 1];
+        return seek::seek_by_value(&none, tables, slots, images, recording, k);
+    }
+    let mut words = [0i16; 5963];
+    image::read_words(tables, 0, &mut words);
+    seek::seek_by_value(&words, &tables[BYTES..], slots, images, recording, k)
+}
+
+// The state that frame k of a recording will be decoded with, from the best save of the shelf.
+#[no_mangle]
+pub extern "C" fn drolkhise_seek(
+    tables: &[u8],
+    records: &[u8],
+    images: &[u8],
+    recording: &[u8],
+    k: u32,
+    image: &mut [u8],
+) -> u8
+    ensures number { λ r. ⌜ r ≡ Seeking.seekNumber (now (tables .entry)) (now (records .entry)) (now (images .entry)) (now (recording .entry)) k (length (now (image .entry))) ⌝ }
+    ensures image { λ _. ⌜ now (image .exit) ≡ Seeking.seekImage (now (tables .entry)) (now (records .entry)) (now (images .entry)) (now (recording .entry)) k (now (image .entry)) ⌝ }
+{
+    if image.len() != image::SIZE {
+        return NO_IMAGE;
+    }
+    if records.len() != desk_shelf::RECORDS {
+        image::write(celp::all_zero(), image);
+        return 12;
+    }
+    let found = sought(
+        tables,
+        desk_shelf::read_records(records),
+        images,
+        recording,
+        k,
+    );
+    let state = found.state;
+    image::write(state, image);
+    found.number
 }

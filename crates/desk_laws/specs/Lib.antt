@@ -3,3 +3,4 @@ pub mod Held
 pub mod Runs
 pub mod TableFile
 pub mod Singles
+pub mod Shelf

@@ -9,7 +9,6 @@ use lib.IntN.{ℤ, pos, negsuc}
 use lib.ListN.{length, getD, take, drop, set, length-map, length-append}
 use lib.Seq.{sets, sets-eq, length-sets, length-take-le, take-all, take-suc, take-at}
 use Rattle.sequence.specs.Table.{table}
-use Rattle.floats.specs.Floats.{bitsAt}
 use Rattle.tables.specs.Tables as Tables
 use Rattle.tables.specs.Tables.{unsignedWord}
 use Rattle.image.specs.Bytes.{bytesOf, numberAt}
@@ -82,13 +81,6 @@ word-is words k = by (getD words k (pos 0))
 pub two-bytes : (b : List ℕ) (i : ℕ) → getD b i 0 + 256 * getD b (i + 1) 0 ≡ numberAt 2 b i
 unfolding numberAt
 two-bytes b i = omega arith
-
-pub four-bytes : (b : List ℕ) (i : ℕ) → bitsAt b i ≡ numberAt 4 b i
-unfolding numberAt bitsAt
-four-bytes b i =
-    let p : i + 1 + 1 ≡ i + 2 = omega arith in
-    let q : i + 2 + 1 ≡ i + 3 = omega arith in
-    rw (p, q) (omega arith)
 
 module _ {A B : Type 0} (g : A → B) where
   map-table : (f : ℕ → A) (n : ℕ) → table (λ k. g (f k)) n ≡ map g (table f n)

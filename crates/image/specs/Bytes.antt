@@ -7,6 +7,7 @@ use native.Mathlib.Nat.{pow-suc}
 use native.Mathlib.Omega.{arith}
 use lib.ListN.{length, getD, take, drop}
 use lib.Seq.{drop-cons, getD-append-add}
+use Rattle.floats.specs.Floats.{bitsAt}
 
 -- the w bytes of a number
 unfoldable pub bytesOf : ℕ → ℕ → List ℕ
@@ -82,3 +83,11 @@ bytes-back (suc w) b h at l =
     let p : (a + 256 * n) % 256 ≡ a = omega arith in
     let q : (a + 256 * n) / 256 ≡ n = omega arith in
     rw (drop-cons b at 0 (omega arith), p, q, ← (add-one at)) (ap (λ (t : List ℕ). a ∷ t) (bytes-back w b h (at + 1) (omega arith)))
+
+-- four of them, as a float's bits are read
+pub four-bytes : (b : List ℕ) (i : ℕ) → bitsAt b i ≡ numberAt 4 b i
+unfolding numberAt bitsAt
+four-bytes b i =
+    let p : i + 1 + 1 ≡ i + 2 = omega arith in
+    let q : i + 2 + 1 ≡ i + 3 = omega arith in
+    rw (p, q) (omega arith)

@@ -158,7 +158,8 @@ fn put_word(n: u16, room: &mut [u8], at: usize)
     room[at + 1] = (n / 256) as u8;
 }
 
-fn put_long(n: u32, room: &mut [u8], at: usize)
+// A number of 32 bits at a place of the room, the lowest byte first.
+pub fn put_long(n: u32, room: &mut [u8], at: usize)
     requires { ⌜ at + 4 ≤ length (now room) ⌝ }
     ensures { λ _. ⌜ now (room .exit) ≡ sets (now (room .entry)) at (Bytes.bytesOf 4 n) ⌝ }
 {

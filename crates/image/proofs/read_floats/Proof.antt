@@ -3,9 +3,9 @@ use Prim.Native.Nat.{ℕ, _+_, _-_, _*_, _≤_}
 use mathlib.Core.Path.{refl, ap, _∙_}
 use lib.ListN.{length}
 use Rattle.sequence.specs.Table.{Written, written-none, written-more, written-end}
-use Rattle.image.specs.Bytes.{numberAt}
+use Rattle.image.specs.Bytes.{numberAt, four-bytes}
 use lib.Ieee.{binary32, ofBits}
-use Rattle.image.proofs.Loops.{read-end, four-bytes}
+use Rattle.image.proofs.Loops.{read-end}
 use borrow.Author.Needs.{needs}
 use Rattle.image.proofs.read_floats.Statement.{statement}
 use Rattle.image.proofs.read_floats.Tie as tie

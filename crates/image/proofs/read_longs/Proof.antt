@@ -3,9 +3,9 @@ use Prim.Native.Nat.{ℕ, _+_, _-_, _*_, _≤_}
 use mathlib.Core.Path.{refl, ap, _∙_}
 use lib.ListN.{length}
 use Rattle.sequence.specs.Table.{Written, written-none, written-more, written-end}
-use Rattle.image.specs.Bytes.{numberAt}
+use Rattle.image.specs.Bytes.{numberAt, four-bytes}
 use Rattle.image.specs.Image.{signed}
-use Rattle.image.proofs.Loops.{read-end, four-bytes}
+use Rattle.image.proofs.Loops.{read-end}
 use mir.Syntax.{w32}
 use mir.Facts.{toZ-ofZ}
 use borrow.Author.Needs.{sfits-of}

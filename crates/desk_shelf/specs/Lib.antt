@@ -1,0 +1,5 @@
+pub mod Records
+pub mod Calls
+pub mod RoundTrips
+pub mod Same
+pub mod Sequences

@@ -1,0 +1,2 @@
+pub mod Forward
+pub mod Places

@@ -1,0 +1,250 @@
+-- Where lines stand in a text: it is gone through by places.
+use Prim.Native.Nat.{ℕ, zero, suc, _+_, _-_, _<_, _≤_, min}
+use mathlib.Core.Path.{_≡_, refl, sym, ap, _∙_}
+use mathlib.Core.List.{List, [], _∷_, _++_}
+use mathlib.Core.Bool.{Bool, true, false, cond}
+use native.Mathlib.Omega.{arith}
+use lib.Dec.{eqb, ltb}
+use borrow.Author.Tests.{eqb-true, eqb-false, eq-eqb, ne-eqb, ltb-true, ltb-false, lt-ltb, le-ltb}
+use lib.IntN.{ℤ}
+use lib.ListN.{length, getD, take, drop, length-take, length-drop, drop-of-length-le}
+use lib.Seq.{take-nil, drop-nil, drop-drop, drop-cons, getD-take}
+use Rattle.stream.specs.Lines.{pieces, ofPieces, lines}
+use Rattle.stream.specs.Held.{zeros, push-text, push-count, shown-same}
+use Rattle.stream.specs.Told.{after}
+use Rattle.celp.specs.declared.State.{State}
+use Rattle.celp.specs.Run.{step}
+use Rattle.hex.specs.Text.{isFrame, isOnly}
+use Rattle.hex.specs.Held.{kept, push, heldLine}
+use Rattle.recording.specs.Recording.{event, isStart, lineStep}
+use Rattle.forward.specs.Forward.{framesOf, frames, forward}
+
+-- how long the first line of a text is
+unfoldable pub lineEnd : List ℕ → ℕ
+lineEnd input = length (pieces input .first)
+
+-- where the frames of a recording begin
+unfoldable pub startOf : List ℕ → ℕ
+startOf recording = cond (isStart (pieces recording .first)) (min (lineEnd recording + 1) (length recording)) 0
+
+-- ---- the first line, and those behind it
+pub end-nil : lineEnd [] ≡ 0
+unfolding lineEnd pieces
+end-nil = refl
+
+pub end-newline : (b : ℕ) (bs : List ℕ) → b ≡ 10 → lineEnd (b ∷ bs) ≡ 0
+unfolding lineEnd pieces
+end-newline b bs e = rw (eq-eqb b 10 e)
+
+pub end-other : (b : ℕ) (bs : List ℕ) → (b ≡ 10 → ⊥) → lineEnd (b ∷ bs) ≡ suc (lineEnd bs)
+unfolding lineEnd pieces
+end-other b bs e = rw (ne-eqb b 10 e)
+
+first-is : (input : List ℕ) → pieces input .first ≡ take (lineEnd input) input
+unfolding lineEnd pieces
+first-is [] = refl
+first-is (b ∷ bs) = by (eqb b 10) refl (first-is bs)
+  where
+    by : (t : Bool) → eqb b 10 ≡ t → pieces bs .first ≡ take (length (pieces bs .first)) bs → pieces (b ∷ bs) .first ≡ take (length (pieces (b ∷ bs) .first)) (b ∷ bs)
+    by true e f = rw e
+    by false e f = rw e (ap (λ (l : List ℕ). b ∷ l) f)
+
+pub end-within : (input : List ℕ) → lineEnd input ≤ length input
+unfolding lineEnd
+end-within input = let e = ap length (first-is input) ∙ length-take (lineEnd input) input in omega arith
+
+-- the lines of the pieces behind the first
+others : List (List ℕ) → List (List ℕ)
+others [] = []
+others (next ∷ more) = ofPieces next more
+
+others-are : (input : List ℕ) → others (pieces input .more) ≡ lines (drop (suc (lineEnd input)) input)
+unfolding others lineEnd pieces lines ofPieces
+others-are [] = refl
+others-are (b ∷ bs) = by (eqb b 10) refl (others-are bs)
+  where
+    by : (t : Bool) → eqb b 10 ≡ t → others (pieces bs .more) ≡ lines (drop (suc (length (pieces bs .first))) bs) → others (pieces (b ∷ bs) .more) ≡ lines (drop (suc (length (pieces (b ∷ bs) .first))) (b ∷ bs))
+    by true e f = rw e
+    by false e f = rw e f
+
+begun : (b : ℕ) (p : List ℕ) (more : List (List ℕ)) → ofPieces (b ∷ p) more ≡ (b ∷ p) ∷ others more
+unfolding ofPieces others
+begun b p [] = refl
+begun b p (next ∷ more) = refl
+
+-- a text that is not empty is its first line, and the lines behind it
+pub lines-cons : (b : ℕ) (bs : List ℕ) → lines (b ∷ bs) ≡ pieces (b ∷ bs) .first ∷ lines (drop (suc (lineEnd (b ∷ bs))) (b ∷ bs))
+unfolding lines lineEnd pieces ofPieces
+lines-cons b bs = by (eqb b 10) refl
+  where
+    by : (t : Bool) → eqb b 10 ≡ t → lines (b ∷ bs) ≡ pieces (b ∷ bs) .first ∷ lines (drop (suc (lineEnd (b ∷ bs))) (b ∷ bs))
+    by true e = rw e
+    by false e = rw e (begun b (pieces bs .first) (pieces bs .more) ∙ ap (λ (l : List (List ℕ)). (b ∷ pieces bs .first) ∷ l) (others-are bs))
+
+lines-none : lines [] ≡ []
+unfolding lines pieces ofPieces
+lines-none = refl
+
+-- the same at a place of a text
+module _ (text : List ℕ) (a : ℕ) where
+  pub line-at : a < length text → pieces (drop a text) .first ≡ take (lineEnd (drop a text)) (drop a text)
+  line-at h = first-is (drop a text)
+
+  lines-at : a < length text → lines (drop a text) ≡ pieces (drop a text) .first ∷ lines (drop (suc (lineEnd (drop a text))) (drop a text))
+  lines-at h = let d = drop-cons text a 0 h in rw d (lines-cons (getD text a 0) (drop (suc a) text))
+
+  -- behind its line
+  behind-is : (r : ℕ) → r ≡ min (a + lineEnd (drop a text) + 1) (length text) → drop (suc (lineEnd (drop a text))) (drop a text) ≡ drop r text
+  behind-is r e = drop-drop (suc (lineEnd (drop a text))) a text ∙ by (ltb (a + lineEnd (drop a text)) (length text)) refl
+    where
+      by : (t : Bool) → ltb (a + lineEnd (drop a text)) (length text) ≡ t → drop (a + suc (lineEnd (drop a text))) text ≡ drop r text
+      by true p = let h = ltb-true (a + lineEnd (drop a text)) (length text) p in let q : a + suc (lineEnd (drop a text)) ≡ r = omega arith in ap (λ (n : ℕ). drop n text) q
+      by false p = let h = ltb-false (a + lineEnd (drop a text)) (length text) p in drop-of-length-le text {i = a + suc (lineEnd (drop a text))} (omega arith) ∙ sym (drop-of-length-le text {i = r} (omega arith))
+
+-- ---- where the frames begin
+start-nil : startOf [] ≡ 0
+unfolding startOf isStart isOnly pieces
+start-nil = refl
+
+module _ (recording : List ℕ) where
+  first-byte : lineEnd recording ≡ 1 → getD (pieces recording .first) 0 0 ≡ getD recording 0 0
+  first-byte e = ap (λ (l : List ℕ). getD l 0 0) (first-is recording) ∙ getD-take (lineEnd recording) recording 0 0 (omega arith)
+
+  -- a first line of another length, of another byte, and `+`
+  pub start-long : (lineEnd recording ≡ 1 → ⊥) → startOf recording ≡ 0
+  unfolding startOf isStart isOnly lineEnd
+  start-long h = rw (ne-eqb (length (pieces recording .first)) 1 h)
+
+  pub start-other : lineEnd recording ≡ 1 → (getD recording 0 0 ≡ 43 → ⊥) → startOf recording ≡ 0
+  unfolding startOf isStart isOnly lineEnd
+  start-other e h = rw (eq-eqb (length (pieces recording .first)) 1 e, first-byte e, ne-eqb (getD recording 0 0) 43 h)
+
+  pub start-plus : lineEnd recording ≡ 1 → getD recording 0 0 ≡ 43 → startOf recording ≡ min (lineEnd recording + 1) (length recording)
+  unfolding startOf isStart isOnly lineEnd
+  start-plus e h = rw (eq-eqb (length (pieces recording .first)) 1 e, first-byte e, eq-eqb (getD recording 0 0) 43 h)
+
+-- ---- frames by their places
+-- place a is where the line of frame n begins, or the end where there is none
+pub record At (recording : List ℕ) (a n : ℕ) : Type 0 where
+  pub within : a ≤ length recording
+  pub left : lines (drop a recording) ≡ drop n (frames recording)
+
+module _ (recording : List ℕ) where
+  pub start-at : At recording (startOf recording) 0
+  unfolding startOf frames framesOf
+  start-at = by recording refl
+    where
+      of : (b : ℕ) (bs : List ℕ) (t : Bool) → isStart (pieces (b ∷ bs) .first) ≡ t → At (b ∷ bs) (startOf (b ∷ bs)) 0
+      of b bs true e =
+          let s : startOf (b ∷ bs) ≡ min (0 + lineEnd (drop 0 (b ∷ bs)) + 1) (length (b ∷ bs)) = rw e (omega arith) in
+          let f : frames (b ∷ bs) ≡ lines (drop (suc (lineEnd (b ∷ bs))) (b ∷ bs)) = rw (lines-cons b bs, e) in
+          record { within = omega arith; left = ap lines (sym (behind-is (b ∷ bs) 0 (startOf (b ∷ bs)) s)) ∙ sym f }
+      of b bs false e =
+          let s : startOf (b ∷ bs) ≡ 0 = rw e in
+          let f : frames (b ∷ bs) ≡ lines (b ∷ bs) = rw (lines-cons b bs, e) in
+          record { within = omega arith; left = ap (λ (n : ℕ). lines (drop n (b ∷ bs))) s ∙ sym f }
+
+      by : (l : List ℕ) → l ≡ recording → At l (startOf l) 0
+      by [] e = let s = start-nil in let f : frames [] ≡ [] = rw lines-none in record { within = omega arith; left = ap lines (drop-nil {A = ℕ} (startOf [])) ∙ lines-none ∙ sym f }
+      by (b ∷ bs) e = of b bs (isStart (pieces (b ∷ bs) .first)) refl
+
+  module _ (a n : ℕ) (at : At recording a n) where
+    -- the line there is frame n's
+    pub frame-at : a < length recording → drop n (frames recording) ≡ take (lineEnd (drop a recording)) (drop a recording) ∷ drop (n + 1) (frames recording)
+    frame-at h =
+        let e = sym (at .left) ∙ lines-at recording a h in
+        let f = sym (drop-drop 1 n (frames recording)) ∙ ap (drop 1) e in
+        rw (f, ← (line-at recording a h)) e
+
+    -- behind it the next one's
+    pub at-more : a < length recording → (e r : ℕ) → e ≡ a + lineEnd (drop a recording) → r ≡ min (e + 1) (length recording) → At recording r (n + 1)
+    at-more h e r p q =
+        let w = behind-is recording a r (rw p at q) in
+        let f = sym (at .left) ∙ lines-at recording a h in
+        record { within = omega arith; left = ap lines (sym w) ∙ sym (sym (drop-drop 1 n (frames recording)) ∙ ap (drop 1) f) }
+
+    -- at the end there is none
+    pub none-at : length recording ≤ a → drop n (frames recording) ≡ []
+    none-at h = sym (at .left) ∙ ap lines (drop-of-length-le recording {i = a} h) ∙ lines-none
+
+    -- so it is the place of every frame from there on
+    pub at-past : length recording ≤ a → (k : ℕ) → n ≤ k → At recording a k
+    at-past h k i =
+        let f = none-at h in
+        let l = sym (length-drop n (frames recording)) ∙ ap length f in
+        record { within = at .within; left = at .left ∙ f ∙ sym (drop-of-length-le (frames recording) {i = k} (omega arith)) }
+
+    -- so there is one just where the place is not the end
+    pub has-at : ltb a (length recording) ≡ ltb n (length (frames recording))
+    has-at = by (ltb a (length recording)) refl
+      where
+        by : (t : Bool) → ltb a (length recording) ≡ t → ltb a (length recording) ≡ ltb n (length (frames recording))
+        by true e =
+            let f = frame-at (ltb-true a (length recording) e) in
+            let l = sym (length-drop n (frames recording)) ∙ ap length f in
+            e ∙ sym (lt-ltb n (length (frames recording)) (omega arith))
+        by false e =
+            let f = none-at (ltb-false a (length recording) e) in
+            let l = sym (length-drop n (frames recording)) ∙ ap length f in
+            e ∙ sym (le-ltb n (length (frames recording)) (omega arith))
+
+-- ---- some of a list
+drop-take : {A : Type 0} (l : List A) (n k : ℕ) → drop n (take k l) ≡ take (k - n) (drop n l)
+drop-take {A} l zero k = let e : k - 0 ≡ k = omega arith in rw e
+drop-take {A} [] (suc n) k = rw (take-nil {A = A} k, drop-nil {A = A} (suc n), take-nil {A = A} (k - suc n))
+drop-take {A} (x ∷ l) (suc n) zero = let e : 0 - suc n ≡ 0 = omega arith in rw e
+drop-take {A} (x ∷ l) (suc n) (suc k) = let e : suc k - suc n ≡ k - n = omega arith in rw e (drop-take l n k)
+
+-- ---- what is held of a line
+-- a byte more
+pub kept-more : (line : List ℕ) (b : ℕ) → push (kept line) b ≡ kept (line ++ (b ∷ []))
+unfolding push kept
+kept-more line b = rw (push-text 40 line b, push-count 40 line b)
+
+-- a line of more than 40 bytes is missed, whichever it is
+event-long : (line : List ℕ) → 40 < length line → event line ≡ event (zeros 41)
+unfolding event isFrame
+event-long line h = rw (ne-eqb (length line) 40 (λ e. omega arith))
+
+module _ (words : List ℤ) (bytes : List ℕ) (recording : List ℕ) where
+  -- what is held of a line does as well as the line
+  pub step-held : (s : State) (line : List ℕ) → lineStep words bytes s (heldLine (kept line)) ≡ lineStep words bytes s line
+  unfolding heldLine kept lineStep
+  step-held s line = shown-same 40 line (λ l. step words bytes s (event l)) long
+    where
+      long : 40 < length line → step words bytes s (event line) ≡ step words bytes s (event (zeros 41))
+      long h = ap (step words bytes s) (event-long line h)
+
+  -- by frame n, at place a, the state is s; what is left up to k gives what is looked for
+  pub record Gone (s₀ : State) (j k : ℕ) (s : State) (a n : ℕ) : Type 0 where
+    pub at : At recording a n
+    pub state : forward words bytes s₀ recording j k ≡ after (lineStep words bytes) s (drop n (take k (frames recording)))
+
+  pub gone-none : (s : State) (j k a : ℕ) → At recording a j → Gone s j k s a j
+  unfolding forward
+  gone-none s j k a h = record { at = h; state = refl }
+
+  module _ {s₀ : State} {j k : ℕ} {s : State} {a n : ℕ} (g : Gone s₀ j k s a n) where
+    left : drop n (take k (frames recording)) ≡ take (k - n) (drop n (frames recording))
+    left = drop-take (frames recording) n k
+
+    -- k is reached
+    pub gone-all : k ≤ n → s ≡ forward words bytes s₀ recording j k
+    unfolding after
+    gone-all h = let e : k - n ≡ 0 = omega arith in sym (g .state ∙ rw (left, e))
+
+    -- the recording ends
+    pub gone-end : length recording ≤ a → s ≡ forward words bytes s₀ recording j k
+    unfolding after
+    gone-end h = sym (g .state ∙ rw (left, none-at recording a n (g .at) h, take-nil {A = List ℕ} (k - n)))
+
+    -- a frame more
+    pub gone-more : n < k → a < length recording → (e r : ℕ) (s′ : State) → e ≡ a + lineEnd (drop a recording) → r ≡ min (e + 1) (length recording) → s′ ≡ lineStep words bytes s (heldLine (kept (take (e - a) (drop a recording)))) → Gone s₀ j k s′ r (n + 1)
+    unfolding after
+    gone-more h i e r s′ p q w =
+        let l = take (lineEnd (drop a recording)) (drop a recording) in
+        let d : k - n ≡ suc (k - (n + 1)) = omega arith in
+        let m : e - a ≡ lineEnd (drop a recording) = omega arith in
+        let t : s′ ≡ lineStep words bytes s l = w ∙ rw m (step-held s l) in
+        let c : drop n (take k (frames recording)) ≡ l ∷ drop (n + 1) (take k (frames recording)) = rw (left, frame-at recording a n (g .at) i, d, drop-take (frames recording) (n + 1) k) in
+        record { at = at-more recording a n (g .at) i e r p q; state = g .state ∙ rw (c, t) }
