@@ -5,7 +5,7 @@ use mathlib.Core.List.{List, [], _∷_, _++_}
 use mathlib.Core.Bool.{Bool, true, false, cond}
 use native.Mathlib.Omega.{arith}
 use lib.Dec.{eqb, ltb}
-use borrow.Author.Tests.{eqb-true, eqb-false, eq-eqb, ne-eqb, ltb-true, ltb-false, lt-ltb, le-ltb}
+use borrow.Author.Tests.{eq-eqb, ne-eqb, ltb-true, ltb-false, lt-ltb, le-ltb}
 use lib.IntN.{ℤ}
 use lib.ListN.{length, getD, take, drop, length-take, length-drop, drop-of-length-le}
 use lib.Seq.{take-nil, drop-nil, drop-drop, drop-cons, getD-take}
@@ -13,10 +13,11 @@ use Rattle.stream.specs.Lines.{pieces, ofPieces, lines}
 use Rattle.stream.specs.Held.{zeros, push-text, push-count, shown-same}
 use Rattle.stream.specs.Told.{after}
 use Rattle.celp.specs.declared.State.{State}
+use Rattle.celp.specs.State.{reset, coldStart}
 use Rattle.celp.specs.Run.{step}
 use Rattle.hex.specs.Text.{isFrame, isOnly}
 use Rattle.hex.specs.Held.{kept, push, heldLine}
-use Rattle.recording.specs.Recording.{event, isStart, lineStep}
+use Rattle.recording.specs.Recording.{event, isStart, Opening, opening, lineStep}
 use Rattle.forward.specs.Forward.{framesOf, frames, forward}
 
 -- how long the first line of a text is
@@ -48,10 +49,6 @@ first-is (b ∷ bs) = by (eqb b 10) refl (first-is bs)
     by : (t : Bool) → eqb b 10 ≡ t → pieces bs .first ≡ take (length (pieces bs .first)) bs → pieces (b ∷ bs) .first ≡ take (length (pieces (b ∷ bs) .first)) (b ∷ bs)
     by true e f = rw e
     by false e f = rw e (ap (λ (l : List ℕ). b ∷ l) f)
-
-pub end-within : (input : List ℕ) → lineEnd input ≤ length input
-unfolding lineEnd
-end-within input = let e = ap length (first-is input) ∙ length-take (lineEnd input) input in omega arith
 
 -- the lines of the pieces behind the first
 others : List (List ℕ) → List (List ℕ)
@@ -122,6 +119,16 @@ module _ (recording : List ℕ) where
   pub start-plus : lineEnd recording ≡ 1 → getD recording 0 0 ≡ 43 → startOf recording ≡ min (lineEnd recording + 1) (length recording)
   unfolding startOf isStart isOnly lineEnd
   start-plus e h = rw (eq-eqb (length (pieces recording .first)) 1 e, first-byte e, eq-eqb (getD recording 0 0) 43 h)
+
+-- so the start tells which state a recording begins in
+pub opens : (words : List ℤ) (bytes recording : List ℕ) → opening words bytes (lines recording) .state ≡ cond (eqb (startOf recording) 0) (coldStart words bytes .state) (reset words bytes .state)
+unfolding opening startOf
+opens words bytes [] = rw (lines-none, start-nil)
+opens words bytes (b ∷ bs) = rw (lines-cons b bs) (by (isStart (pieces (b ∷ bs) .first)))
+  where
+    by : (t : Bool) → cond {A = Opening} t (record { state = reset words bytes .state; lines = lines (drop (suc (lineEnd (b ∷ bs))) (b ∷ bs)) }) (record { state = coldStart words bytes .state; lines = pieces (b ∷ bs) .first ∷ lines (drop (suc (lineEnd (b ∷ bs))) (b ∷ bs)) }) .state ≡ cond (eqb (cond t (min (lineEnd (b ∷ bs) + 1) (length (b ∷ bs))) 0) 0) (coldStart words bytes .state) (reset words bytes .state)
+    by true = rw (ne-eqb (min (lineEnd (b ∷ bs) + 1) (length (b ∷ bs))) 0 (λ e. omega arith))
+    by false = refl
 
 -- ---- frames by their places
 -- place a is where the line of frame n begins, or the end where there is none

@@ -3,6 +3,7 @@ ghost use mathlib.Core.Path.{_≡_};
 ghost use Prim.Native.Nat.{_+_, _≤_, _<_, min};
 ghost use lib.Dec.{ltb};
 ghost use lib.ListN.{length, drop};
+ghost use Rattle.stream.specs.Lines.{lines};
 ghost use Rattle.celp.specs.Run.{heard, step};
 ghost use Rattle.hex.specs.Held as Held;
 ghost use Rattle.recording.specs.Recording as Recording;
@@ -12,7 +13,7 @@ use celp::State;
 use hex::Line;
 
 // Where the line that begins at place a ends: at its newline, or at the end of the recording.
-fn line_end(recording: &[u8], a: usize) -> usize
+pub fn line_end(recording: &[u8], a: usize) -> usize
     requires { ⌜ a ≤ length (now recording) ⌝ }
     ensures end { λ r. ⌜ r ≡ a + Places.lineEnd (drop a (now (recording .entry))) ⌝ }
     ensures within { λ r. ⌜ r ≤ length (now (recording .entry)) ⌝ }
@@ -28,7 +29,7 @@ fn line_end(recording: &[u8], a: usize) -> usize
 }
 
 // The place behind a line that ends at e.
-fn behind(recording: &[u8], e: usize) -> usize
+pub fn behind(recording: &[u8], e: usize) -> usize
     requires { ⌜ e ≤ length (now recording) ⌝ }
     ensures { λ r. ⌜ r ≡ min (e + 1) (length (now (recording .entry))) ⌝ }
 {
@@ -50,7 +51,7 @@ fn start_of(recording: &[u8]) -> usize
 }
 
 // The place of the line of frame k, or the end of the recording where there is none.
-fn place_of(recording: &[u8], k: u32) -> usize
+pub fn place_of(recording: &[u8], k: u32) -> usize
     ensures { λ r. ⌜ Places.At (now (recording .entry)) r k ⌝ }
 {
     let mut a = start_of(recording);
@@ -73,7 +74,7 @@ pub fn has_frame(recording: &[u8], k: u32) -> bool
 }
 
 // A line as it is held.
-fn held(line: &[u8]) -> Line
+pub fn held(line: &[u8]) -> Line
     ensures { λ r. ⌜ r ≡ Held.kept (now (line .entry)) ⌝ }
 {
     let mut l = hex::empty();
@@ -122,4 +123,24 @@ pub fn forward(words: &[i16], bytes: &[u8], state: State, recording: &[u8], j: u
         n += 1;
     }
     s
+}
+
+// The state that a recording's calls begin in.
+fn opening(words: &[i16], bytes: &[u8], recording: &[u8]) -> State
+    ensures { λ r. ⌜ r ≡ Recording.opening (now (words .entry)) (now (bytes .entry)) (lines (now (recording .entry))) .state ⌝ }
+{
+    if start_of(recording) == 0 {
+        let cold = celp::cold_start(words, bytes);
+        return cold.state;
+    }
+    let reset = celp::reset(words, bytes);
+    reset.state
+}
+
+// The state before frame k, where the recording is played from its start.
+pub fn before(words: &[i16], bytes: &[u8], recording: &[u8], k: u32) -> State
+    ensures { λ r. ⌜ r ≡ Forward.before (now (words .entry)) (now (bytes .entry)) (now (recording .entry)) k ⌝ }
+{
+    let s = opening(words, bytes, recording);
+    forward(words, bytes, s, recording, 0, k)
 }

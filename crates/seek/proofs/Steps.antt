@@ -1,11 +1,11 @@
 -- A seek's refusals one by one, in their order; and what is fetched.
 use Prim.Native.Nat.{ℕ, zero, suc, _<_, _≤_}
-use mathlib.Core.Path.{_≡_, refl, sym, ap, _∙_}
+use mathlib.Core.Path.{_≡_, refl, ap, _∙_}
 use mathlib.Core.Bool.{Bool, true, false, _&&_, cond}
 use mathlib.Core.List.{List}
 use native.Mathlib.Omega.{arith}
-use lib.Dec.{eqb, ltb, leb}
-use borrow.Author.Tests.{eq-eqb, ne-eqb, lt-ltb, le-ltb, eqb-true}
+use lib.Dec.{eqb, ltb}
+use borrow.Author.Tests.{eq-eqb, ne-eqb, lt-ltb, le-ltb}
 use lib.IntN.{ℤ}
 use lib.ListN.{length, replicate}
 use Rattle.tables.specs.Tables.{check}
@@ -16,11 +16,11 @@ use Rattle.slots.specs.declared.Records.{Records}
 use Rattle.slots.specs.Slots.{noSlot, shown}
 use Rattle.shelf.specs.declared.Fetched.{Fetched}
 use Rattle.shelf.specs.Shelf.{SLOTS, ROOM, users, slotAt, stateAt, lent, judged, notFetched, fetchLent, fetch}
-use Rattle.shelf.specs.Cases.{judged-not, judged-lent, held-yes, is-lent}
+use Rattle.shelf.specs.Cases.{held-yes}
 use Rattle.forward.specs.Forward.{frames, forward}
 use Rattle.seek.specs.declared.Sought.{Sought}
 use Rattle.seek.specs.Best.{fits, best, best-means}
-use Rattle.seek.specs.Seek.{notSought, ofSet, saved, savedAt, fromSave, seekLent, seek}
+use Rattle.seek.specs.Seek.{notSought, ofSet, fromSave, seekLent, seek}
 
 module _ {A : Type 0} (count room : ℕ) (refuses : ℕ → A) (a : A) where
   pub not-sixteen : (count ≡ SLOTS → ⊥) → judged count room refuses a ≡ refuses 12

@@ -19,7 +19,7 @@ use Rattle.celp.specs.StateRule.{Obeying, initial-obeying, run-obeying}
 use Rattle.recording.specs.Recording.{event, isStart, Opening, opening, lineStep}
 use Rattle.slots.specs.declared.Slot.{Slot}
 use Rattle.shelf.specs.Shelf.{SLOTS, ROOM, slotAt, stateAt, lent, judged}
-use Rattle.shelf.specs.Cases.{judged-not, judged-lent, is-lent}
+use Rattle.shelf.specs.Cases.{is-lent}
 use Rattle.forward.specs.Forward.{frames, forward, before, forward-before}
 use Rattle.seek.specs.declared.Sought.{Sought}
 use Rattle.seek.specs.Best.{fits, best, best-means, none-means}

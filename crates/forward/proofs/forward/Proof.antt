@@ -1,6 +1,6 @@
 -- By each frame what is left up to k gives what is looked for.
 use borrow.Author.Needs.{needs}
-use Prim.Native.Nat.{_-_, _≤_}
+use Prim.Native.Nat.{_-_}
 use native.Mathlib.Omega.{arith}
 use Rattle.forward.specs.Places.{Gone, gone-none, gone-more, gone-all, gone-end}
 use Rattle.forward.proofs.forward.Statement.{statement}

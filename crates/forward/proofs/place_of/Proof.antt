@@ -1,7 +1,7 @@
 -- By each line the place is that of the frame that is counted.
 use borrow.Author.Needs.{needs}
 use Prim.Native.Nat.{_-_, _≤_}
-use mathlib.Core.Path.{_≡_, sym, ap, _∙_}
+use mathlib.Core.Path.{_≡_}
 use native.Mathlib.Omega.{arith}
 use Rattle.forward.specs.Places.{At, start-at, at-more, at-past}
 use Rattle.forward.proofs.place_of.Statement.{statement}

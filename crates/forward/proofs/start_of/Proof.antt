@@ -1,8 +1,8 @@
 -- The first line is `+`, or the frames begin with it.
 use borrow.Author.Needs.{needs}
-use mathlib.Core.Path.{_≡_, sym, ap, _∙_}
+use mathlib.Core.Path.{sym}
 use native.Mathlib.Omega.{arith}
-use Rattle.forward.specs.Places.{lineEnd, start-long, start-other, start-plus}
+use Rattle.forward.specs.Places.{start-long, start-other, start-plus}
 use Rattle.forward.proofs.start_of.Statement.{statement}
 use Rattle.forward.proofs.start_of.Tie as tie
 

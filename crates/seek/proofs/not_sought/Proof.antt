@@ -1,7 +1,4 @@
-use mathlib.Core.Path.{ap}
 use borrow.Author.Needs.{needs}
-use Rattle.celp.specs.declared.State.{State}
-use Rattle.seek.specs.declared.Sought.{Sought}
 use Rattle.seek.proofs.not_sought.Statement.{statement}
 use Rattle.seek.proofs.not_sought.Tie as tie
 
