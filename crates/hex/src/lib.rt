@@ -44,7 +44,7 @@ pub fn push(line: Line, b: u8) -> Line
 }
 
 // What a digit of either case is worth; 16 for any other byte.
-fn value(c: u8) -> u8
+pub fn value(c: u8) -> u8
     ensures { λ r. ⌜ r ≡ Text.value c ⌝ }
 {
     match c {

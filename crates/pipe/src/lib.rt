@@ -17,7 +17,7 @@ pub struct Moved {
 }
 
 // A descriptor's next bytes, at the start of room. A read that is interrupted 2^64 - 1 times has failed.
-fn read_from(fd: i32, room: &mut [u8]) -> Moved
+pub fn read_from(fd: i32, room: &mut [u8]) -> Moved
     ensures { λ r. ⌜ Counts (r .n) (now (room .exit)) ⌝ }
 {
     let mut tries = u64::MAX;

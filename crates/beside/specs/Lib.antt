@@ -1,0 +1,9 @@
+pub mod Beside
+pub mod Worked
+pub mod Same
+pub mod Kept
+pub mod Talk
+pub mod Long
+pub mod Spoken
+pub mod Agreed
+pub mod Differs
