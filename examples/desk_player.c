@@ -82,7 +82,7 @@ int main(int argc, char **argv) {
     if (!(out = fopen(argv[3], "wb"))) fail(argv[3], "cannot be opened");
     wav_header(header, 0);
     fwrite(header, 1, HEADER, out);
-    uint32_t frames = 0, silent = 0, sure = 0;
+    uint32_t frames = 0, silent = 0, trusted = 0;
     for (; n >= 0; n = next_line(in, line), frames++) {
         uint8_t mark = image[DROLKHISE_MARK];
         if (frames == (UINT32_MAX - HEADER) / DROLKHISE_SAMPLES) fail(argv[2], "is longer than a WAV file can be");
@@ -96,7 +96,7 @@ int main(int argc, char **argv) {
         }
         if (number != DROLKHISE_ACCEPTED) memset(samples, 0, sizeof samples);
         silent += number != DROLKHISE_ACCEPTED;
-        sure += number == DROLKHISE_ACCEPTED && mark == 2;
+        trusted += number == DROLKHISE_ACCEPTED && mark == 2;
         fwrite(samples, 1, sizeof samples, out);
     }
     if (ferror(in)) fail(argv[2], "cannot be read");
@@ -105,7 +105,7 @@ int main(int argc, char **argv) {
     fwrite(header, 1, HEADER, out);
     int bad = ferror(out);
     if (fclose(out) != 0 || bad) fail(argv[3], "cannot be written");
-    printf("%lu frames, %lu with mark 2, %lu silent\n", (unsigned long)frames, (unsigned long)sure, (unsigned long)silent);
+    printf("%lu frames, %lu with mark 2, %lu silent\n", (unsigned long)frames, (unsigned long)trusted, (unsigned long)silent);
     fclose(in);
     return 0;
 }

@@ -20,7 +20,7 @@ extern "C" {
 /* The lengths, in bytes. */
 enum drolkhise_length {
     DROLKHISE_TABLES = 15834, /* the table file: 5,963 words of 16 bits, low byte first, then 3,908 bytes; only read */
-    DROLKHISE_IMAGE = 525,    /* the image: all that the decoder carries from one frame of a call to the next; read and written */
+    DROLKHISE_IMAGE = 526,    /* the image: all that the decoder carries from one frame of a call to the next; read and written */
     DROLKHISE_PAYLOAD = 20,   /* a frame; only read */
     DROLKHISE_SAMPLES = 640,  /* room for 320 samples of 16 bits with a sign, low byte first; only written */
     DROLKHISE_RECORDS = 80,   /* the shelf's sixteen slot records, of 5 bytes each; read and written */
@@ -30,16 +30,16 @@ enum drolkhise_length {
 /* How many frames one call of drolkhise_decode_frames may have. */
 enum { DROLKHISE_MOST_FRAMES = 64 };
 
-/* The image's last byte is the mark: 2, the next frame's sound has the sender's lags, gains and filters; 0 or 1, the decoder is still recovering
- * from a loss or a late start. Look at it before a decode to know it of that frame. A player has no other use for the bytes of an image: it may
- * copy them, keep them and decode on from them later. */
-enum { DROLKHISE_MARK = DROLKHISE_IMAGE - 1 };
+/* The image's last byte but one is the mark: 2, the next frame's sound has the sender's lags, gains and filters; 0 or 1, the decoder is still recovering
+ * from a loss or a late start. The last byte is 2 where, with mark 2, the excitation of the next frame is the sender's too; else 0 or 1. Look at them before
+ * a decode to know it of that frame. A player has no other use for the bytes of an image: it may copy them, keep them and decode on from them later. */
+enum { DROLKHISE_MARK = DROLKHISE_IMAGE - 2, DROLKHISE_SURE = DROLKHISE_IMAGE - 1 };
 
 /* What a call answers: 0, or the first of these that applies, tried in the order in which they stand here, but that drolkhise_decode_frames tries 3 before 2.
  * A call tries only what it is lent. */
 enum drolkhise_refusal {
     DROLKHISE_ACCEPTED = 0,
-    DROLKHISE_IMAGE_LENGTH = 11,  /* the image is not 525 bytes long */
+    DROLKHISE_IMAGE_LENGTH = 11,  /* the image is not 526 bytes long */
     DROLKHISE_SHELF_LENGTH = 12,  /* the shelf's records or its images, or the room for a slot's number, are of another length */
     DROLKHISE_NO_SLOT = 13,       /* the slot is none of 0 to 15, or has no users */
     DROLKHISE_SLOT_FULL = 14,     /* no slot is free for a save, or the slot to be held has 255 users */
@@ -48,32 +48,33 @@ enum drolkhise_refusal {
     DROLKHISE_SAMPLES_LENGTH = 2, /* the room for samples is not 640 bytes long, of several frames that for samples or for numbers not as long as they ask */
     DROLKHISE_PAYLOAD_LENGTH = 3, /* the frame is not 20 bytes long, or several are not 1 to 64 frames */
     DROLKHISE_TABLES_RULE = 4,    /* the tables break a set rule */
-    DROLKHISE_IMAGE_RULE = 5,     /* the image is no decoder's: one of its floats is no number within 131,072, or its mark is above 2 */
+    DROLKHISE_IMAGE_RULE = 5,     /* the image is no decoder's: one of its floats is no number within 131,072, or one of its last two bytes is above 2 */
     DROLKHISE_PADDING = 6,        /* a padding bit of the frame is set: one of the two highest of its last byte */
     DROLKHISE_CODE_INDEX = 7      /* a code index of the frame has no position under these tables */
 };
 
-/* Begins a call that is heard from its first frame: writes the image that the sender began with, mark 2.
+/* Begins a call that is heard from its first frame: writes the image that the sender began with, 2 and 2 in its last bytes.
  * Refused (1, 4) it writes an image of zeros; with 11 nothing. */
 uint8_t drolkhise_reset(const uint8_t *tables, size_t tables_length, uint8_t *image, size_t image_length);
 
-/* Begins a call that may have been joined late: the same image with mark 0. Refusals as above. */
+/* Begins a call that may have been joined late: the same image with 0 and 0. Refusals as above. */
 uint8_t drolkhise_cold_start(const uint8_t *tables, size_t tables_length, uint8_t *image, size_t image_length);
 
 /* A frame: writes its 320 samples and the next image, whose mark is one higher, up to 2.
- * Refused (1 to 7) it writes only the mark, 0, and leaves the samples as they were; with 11 nothing. */
+ * Refused (1 to 7) it writes only the last two bytes, 0 and 0, and leaves the samples as they were; with 11 nothing. */
 uint8_t drolkhise_decode(const uint8_t *tables, size_t tables_length, uint8_t *image, size_t image_length, const uint8_t *payload, size_t payload_length,
                          uint8_t *samples, size_t samples_length);
 
 /* 1 to 64 frames, their payloads laid end to end: what their single calls write, one after the other, with the tables and the image looked through once. There
  * is room for 640 bytes of samples a frame, which is read too, and for one number a frame: what its own call would answer, 0, 6 or 7. A frame that is refused
- * leaves its samples as they were and the mark 0, and the next goes on from there.
+ * leaves its samples as they were and the last two bytes 0, and the next goes on from there.
  * Refused (1, 3, 2, 4, 5; 3 where the payloads are not 20 bytes a frame or not 1 to 64 frames, 2 where either room is not as long as they ask) it decodes no
- * frame and writes only the mark, 0; with 11 nothing. */
+ * frame and writes only the last two bytes, 0 and 0; with 11 nothing. */
 uint8_t drolkhise_decode_frames(const uint8_t *tables, size_t tables_length, uint8_t *image, size_t image_length, const uint8_t *payloads, size_t payloads_length,
                                 uint8_t *samples, size_t samples_length, uint8_t *numbers, size_t numbers_length);
 
-/* A frame of the call that did not arrive, or several together: writes only the mark, 0, also into an image that is no decoder's (5); with 11 nothing. */
+/* A frame of the call that did not arrive, or several together: writes only the last two bytes, 0 and 0, also into an image that is no
+ * decoder's (5); with 11 nothing. */
 uint8_t drolkhise_missed_frame(uint8_t *image, size_t image_length);
 
 /* The shelf keeps up to sixteen images, so that a player can go back in a call or let several listeners stand at different frames of it. It is two buffers
@@ -116,7 +117,7 @@ static inline const char *drolkhise_refusal_text(uint8_t number) {
     case DROLKHISE_IMAGE_RULE: return "the image is no decoder's";
     case DROLKHISE_PADDING: return "a padding bit of the frame is set";
     case DROLKHISE_CODE_INDEX: return "a code index of the frame has no position";
-    case DROLKHISE_IMAGE_LENGTH: return "the image is not 525 bytes long";
+    case DROLKHISE_IMAGE_LENGTH: return "the image is not 526 bytes long";
     case DROLKHISE_SHELF_LENGTH: return "the shelf's records or images, or the room for a slot, are of another length";
     case DROLKHISE_NO_SLOT: return "there is no such slot, or it has no users";
     case DROLKHISE_SLOT_FULL: return "no slot is free, or the slot has 255 users";

@@ -174,13 +174,13 @@ static int image_right(const struct call *c, uint8_t number, const uint8_t *befo
     if (number == DROLKHISE_IMAGE_LENGTH) return memcmp(wanted, after, c->length[IMAGE]) == 0;
     if (c->which == RESET || c->which == COLD_START) {
         memset(wanted, 0, DROLKHISE_IMAGE);
-        if (number == 0) return after[DROLKHISE_MARK] == (c->which == RESET ? 2 : 0) && memcmp(wanted, after, DROLKHISE_IMAGE) != 0;
+        if (number == 0) return after[DROLKHISE_MARK] == (c->which == RESET ? 2 : 0) && after[DROLKHISE_SURE] == after[DROLKHISE_MARK] && memcmp(wanted, after, DROLKHISE_IMAGE) != 0;
     } else if (c->which == DECODE_FRAMES && number == 0) {
         return 1; // as_single looks at it
     } else if (c->which == DECODE && number == 0) {
         return after[DROLKHISE_MARK] == (before[DROLKHISE_MARK] < 2 ? before[DROLKHISE_MARK] + 1 : 2);
     } else {
-        wanted[DROLKHISE_MARK] = 0;
+        wanted[DROLKHISE_MARK] = wanted[DROLKHISE_SURE] = 0;
     }
     return memcmp(wanted, after, DROLKHISE_IMAGE) == 0;
 }
@@ -413,7 +413,7 @@ static void every_fault(void) {
     said("faults together");
 }
 
-// Document 01's state rule.
+// Document 01's state rule, with T-14's number.
 static int obeys(const uint8_t *image) {
     for (size_t at = FLOATS; at < DROLKHISE_MARK; at += 4) {
         uint32_t bits = (uint32_t)image[at] | (uint32_t)image[at + 1] << 8 | (uint32_t)image[at + 2] << 16 | (uint32_t)image[at + 3] << 24;
@@ -421,10 +421,10 @@ static int obeys(const uint8_t *image) {
         memcpy(&x, &bits, sizeof x);
         if (!(fabsf(x) <= 131072)) return 0;
     }
-    return image[DROLKHISE_MARK] <= 2;
+    return image[DROLKHISE_MARK] <= 2 && image[DROLKHISE_SURE] <= 2;
 }
 
-// Floats and mark with every value of each byte, the whole numbers with each bit of each byte.
+// Floats and the last two bytes with every value of each byte, the whole numbers with each bit of each byte.
 static void images(void) {
     static struct call c;
     unsigned long broken = 0;

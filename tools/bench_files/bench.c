@@ -7,7 +7,7 @@
 #include <string.h>
 #include <time.h>
 
-enum { WORDS = 5963, BYTES = 3908, TABLES = 2 * WORDS + BYTES, IMAGE = 525 };
+enum { WORDS = 5963, BYTES = 3908, TABLES = 2 * WORDS + BYTES, IMAGE = 526 };
 
 extern uint8_t bench_check(const int16_t *words, size_t word_count, const uint8_t *bytes, size_t byte_count);
 extern uint8_t bench_run(const int16_t *words, size_t word_count, const uint8_t *bytes, size_t byte_count, const uint8_t *frames, size_t frame_bytes, int16_t *samples, size_t sample_count);

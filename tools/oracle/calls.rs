@@ -1,13 +1,14 @@
 //! The desk player's calls (document 02, T-07 and T-08), answered by the Rust, beside the answers that tools/test_c.c met in the proved ones.
 //! The tests of lengths, set and state, and what is written when, are documents 01's and 02's; the Rust has none of them.
 use super::postfilter::OutputFilter;
-use super::trace::{refusal, Memory};
+use super::trace::{refusal, sure_after, Memory};
 use crate::celp::Native;
 use crate::lent;
 use std::io::Read;
 
-const IMAGE: usize = 525;
-const MARK: usize = IMAGE - 1;
+const IMAGE: usize = 526;
+const MARK: usize = IMAGE - 2;
+const SURE: usize = IMAGE - 1;
 
 /// Takes an image apart, or puts one together, from its front.
 struct Reader<'a>(&'a [u8]);
@@ -41,9 +42,9 @@ fn sound(tables: &[u8]) -> bool {
         && floats.all(|x| x.abs() <= 65536.0)
 }
 
-/// Document 01's state rule.
+/// Document 01's state rule, with T-14's number.
 fn obeys(image: &[u8]) -> bool {
-    image[388..MARK].chunks(4).all(|p| f32::from_le_bytes(p.try_into().unwrap()).abs() <= 131072.0) && image[MARK] <= 2
+    image[388..MARK].chunks(4).all(|p| f32::from_le_bytes(p.try_into().unwrap()).abs() <= 131072.0) && image[MARK] <= 2 && image[SURE] <= 2
 }
 
 /// A decoder in the state that an image holds. What no frame may depend on is junk.
@@ -68,7 +69,7 @@ fn restored(image: &[u8]) -> Native {
     native
 }
 
-fn image_of(native: &Native, mark: u8) -> Vec<u8> {
+fn image_of(native: &Native, mark: u8, sure: u8) -> Vec<u8> {
     let core = &native.core;
     let memory = super::trace::memory(&core.output_filter);
     let mut out = Vec::new();
@@ -81,6 +82,7 @@ fn image_of(native: &Native, mark: u8) -> Vec<u8> {
     out.extend(memory.iir.iter().flat_map(|&x| i32::try_from(x).expect("32 bits").to_le_bytes()));
     out.extend(native.spectrum.history.as_flattened().iter().chain(&native.gain.history).flat_map(|x| x.to_le_bytes()));
     out.push(mark);
+    out.push(sure);
     out
 }
 
@@ -96,7 +98,7 @@ fn call(which: u8, tables: &[u8], image: &mut Vec<u8>, payload: &[u8], samples: 
     };
     if which == 3 {
         let number = if obeys(image) { 0 } else { 5 };
-        image[MARK] = 0;
+        image[MARK..].fill(0);
         return number;
     }
     if which < 2 {
@@ -104,7 +106,8 @@ fn call(which: u8, tables: &[u8], image: &mut Vec<u8>, payload: &[u8], samples: 
         *image = vec![0; IMAGE];
         if number == 0 {
             lent::fill(tables);
-            *image = image_of(&Native::default(), if which == 0 { 2 } else { 0 });
+            let begun = if which == 0 { 2 } else { 0 };
+            *image = image_of(&Native::default(), begun, begun);
         }
         return number;
     }
@@ -124,7 +127,7 @@ fn call(which: u8, tables: &[u8], image: &mut Vec<u8>, payload: &[u8], samples: 
             0
         };
         if number != 0 {
-            image[MARK] = 0;
+            image[MARK..].fill(0);
             return number;
         }
         for k in 0..n {
@@ -152,12 +155,13 @@ fn call(which: u8, tables: &[u8], image: &mut Vec<u8>, payload: &[u8], samples: 
         number = refusal(payload.try_into().unwrap());
     }
     if number != 0 {
-        image[MARK] = 0;
+        image[MARK..].fill(0);
         return number;
     }
     let mut native = restored(image);
     let seen = native.decode(payload.try_into().unwrap()).unwrap();
-    *image = image_of(&native, (image[MARK] + 1).min(2));
+    let (sure, _) = sure_after(image[MARK], image[SURE], &seen.gain);
+    *image = image_of(&native, (image[MARK] + 1).min(2), sure);
     *samples = seen.pcm.iter().flat_map(|x| x.to_le_bytes()).collect();
     0
 }

@@ -12,6 +12,8 @@ pub struct Tally {
     pub refused: [u64; 10],
     /// by the mark that they were answered with
     pub marks: [u64; 3],
+    /// subframes that are sure
+    pub sure: u64,
     pub met: [u64; MET.len()],
     /// of subframes, for each kind of clipped samples: one sample clipped, several, all 80; and clipped in this kind alone
     pub clipped: [[u64; 4]; 4],
@@ -71,9 +73,10 @@ pub fn said(tally: &Tally) -> String {
         .map(|(name, [one, some, whole, alone])| format!("{name}: 1 sample {one}, more {some}, all 80 {whole}, in it alone {alone}"))
         .collect();
     format!(
-        "{} accepted (by mark: {}), {} refused (by number: {}); frames with [{}]; subframes clipped in [none: {}; {}; all four: {}]",
+        "{} accepted (by mark: {}; {} subframes sure), {} refused (by number: {}); frames with [{}]; subframes clipped in [none: {}; {}; all four: {}]",
         tally.accepted,
         counts(&digits, &tally.marks),
+        tally.sure,
         tally.refused.iter().sum::<u64>(),
         counts(&digits, &tally.refused),
         counts(&met, &tally.met),
@@ -129,6 +132,7 @@ pub fn all(launch: &str, each: u64, lines: usize) -> bool {
                     sum.accepted += tally.accepted;
                     add(&mut sum.refused, &tally.refused);
                     add(&mut sum.marks, &tally.marks);
+                    sum.sure += tally.sure;
                     add(&mut sum.met, &tally.met);
                     add(sum.clipped.as_flattened_mut(), tally.clipped.as_flattened());
                     sum.all_four += tally.all_four;

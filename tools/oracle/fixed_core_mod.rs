@@ -11,6 +11,7 @@ pub mod pitch;
 pub mod postfilter;
 pub mod probe;
 pub mod recordings;
+pub mod sure;
 pub mod synth;
 pub mod tables;
 pub mod trace;

@@ -8,6 +8,7 @@
 //!                                       to standard error
 //! oracle calls TABLES..                the desk player's calls on standard input, as tools/test_c.c writes them, and whether the Rust answers them alike
 //! oracle compare LAUNCH SETS LINES      `LAUNCH trace` on sets of every kind, every figure compared (compare.rs)
+//! oracle sure LAUNCH SETS LINES         a sender and a receiver of the Rust and `LAUNCH trace` beside them: what is answered as sure is the sender's (sure.rs)
 //! oracle frames COUNT [SEED]            that many random frames as lines of hexadecimal, damaged ones among them
 //! oracle recording TABLES COUNT [SEED]  that many lines, most of them frames that the set accepts (recordings.rs)
 //! oracle two_zeros TRIES [SEED]         of so many random LSP sets those by which the reflection recursion meets a residual of 0 more than once
@@ -105,6 +106,12 @@ fn main() {
         Some("compare") => {
             let number = |k: usize| words[k].parse().expect("a number");
             if !compare::all(&words[1], number(2), number(3) as usize) {
+                std::process::exit(1);
+            }
+        }
+        Some("sure") => {
+            let number = |k: usize| words[k].parse().expect("a number");
+            if !Native::all_sure(&words[1], number(2), number(3) as usize) {
                 std::process::exit(1);
             }
         }

@@ -1,5 +1,5 @@
 //! Every figure of every frame of a recording, as the Rust gives it: a line a part, numbers in decimal, floats by their bits.
-//! The mark, and refusals 7 and 9, are document 01's, and a first line `+` is document 02's; the Rust has none of them.
+//! The mark, and refusals 7 and 9, are document 01's, a first line `+` and how sure the excitation is are document 02's; the Rust has none of them.
 use super::{lsp, postfilter::OutputFilter, probe::digits, probe::digits_fit, probe::zero_residuals};
 use crate::celp::{post_fec, Native};
 use crate::compare::Tally;
@@ -64,6 +64,7 @@ pub struct Tracer {
     /// the copy that counts what `sat` changes
     counting: counting::Decoder,
     pub mark: u8,
+    pub sure: u8,
     pub tally: Tally,
 }
 
@@ -93,6 +94,23 @@ pub fn refusal(payload: &[u8; 20]) -> u8 {
     }
 }
 
+/// T-14: what a frame that came with this mark leaves of the number, and at which of its subframes it is 2. A figure's tenth number is the pitch gain.
+pub fn sure_after(mark: u8, before: u8, figures: &[[f32; 12]; 4]) -> (u8, [u8; 4]) {
+    if mark < 2 {
+        return (0, [0; 4]);
+    }
+    let mut now = before;
+    let answers = figures.map(|f| {
+        now = match (now, f[9] == 0.0) {
+            (2, _) => 2,
+            (n, true) => n + 1,
+            (_, false) => 0,
+        };
+        (now == 2) as u8
+    });
+    (now, answers)
+}
+
 impl Tracer {
     /// For the lines that are left of a recording: from reset, with mark 2, where its first is `+`; else cold, with mark 0.
     fn opened(recording: &[u8]) -> (Self, impl Iterator<Item = &[u8]>) {
@@ -102,6 +120,7 @@ impl Tracer {
             native: Native::default(),
             counting: counting::Decoder::default(),
             mark: if heard { 2 } else { 0 },
+            sure: if heard { 2 } else { 0 },
             tally: Tally::default(),
         };
         (tracer, rows(recording).skip(heard as usize))
@@ -125,11 +144,13 @@ impl Tracer {
         out.line("residuals", self.native.spectrum.history.as_flattened().iter().map(|x| x.to_bits()));
         out.line("gains", self.native.gain.history.map(f32::to_bits));
         out.line("mark", [self.mark]);
+        out.line("sure", [self.sure]);
         out.end();
     }
 
     fn refused(&mut self, number: u8, out: &mut Text) {
         self.mark = 0;
+        self.sure = 0;
         self.tally.refused[number as usize] += 1;
         out.line("refused", [number]);
         out.end();
@@ -164,20 +185,24 @@ impl Tracer {
         assert_eq!(&seen.pcm[..], &pcm[..], "the copy went another way");
         let (counted, clipped) = self.counting.decode(payload);
         assert_eq!(seen.pcm, counted, "the copy that counts went another way");
+        let (left, sure) = sure_after(self.mark, self.sure, &seen.gain);
+        self.sure = left;
         out.line("accepted", [self.mark]);
         out.end();
         out.line("samples", seen.pcm);
         out.end();
         out.line("excitation", seen.excitation);
         out.end();
-        for ((figures, (lag, lpc, innovation)), clipped) in seen.gain.iter().zip(&parts).zip(clipped) {
+        for (((figures, (lag, lpc, innovation)), clipped), sure) in seen.gain.iter().zip(&parts).zip(clipped).zip(sure) {
             out.line("figures", figures.map(f32::to_bits));
             out.line("lag", [lag.integer, lag.frac]);
             out.line("lpc", lpc);
             out.line("innovation", innovation);
             out.line("zero_residuals", [zero_residuals(lpc)]);
             out.line("clipped", clipped);
+            out.line("sure", [sure]);
             out.end();
+            self.tally.sure += sure as u64;
         }
         // the last coefficient of each step of the recursion decides its residual
         let steps: Vec<i16> = parts.iter().flat_map(|p| lsp::reflection_coefficients(&p.1)[1..].to_vec()).collect();

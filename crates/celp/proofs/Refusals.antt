@@ -62,7 +62,7 @@ pub record Ready (words : List ℤ) (bytes : List ℕ) (s : State) (payload : Li
   pub first-within : InWidths (f .first)
   pub second-within : InWidths (f .second)
   pub digits-fit : Frame.digitsFit words f ≡ true
-  pub answered : accepted (s .mark) (Frame.decode words bytes (carried s) (s .residuals) f) ≡ decode words bytes s payload 320
+  pub answered : accepted (s .mark) (s .sure) (Frame.decode words bytes (carried s) (s .residuals) f) ≡ decode words bytes s payload 320
   pub left : Frame.samples words bytes (carried s) (s .residuals) f ≡ samples words bytes s payload old
 
 module _ (words : List ℤ) (bytes : List ℕ) (s : State) (payload : List ℕ) (old : List ℤ) (k : Sound words bytes) (o : obeys s ≡ true) (p : length payload ≡ 20) (r : length old ≡ 320) (n : ℕ) (e : n ≡ spoilt words payload) where

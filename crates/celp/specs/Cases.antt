@@ -8,7 +8,7 @@ use Rattle.tables.specs.Tables.{check}
 use Rattle.bits.specs.Bits.{fieldsOf}
 use Rattle.frame.specs.Frame as Frame
 use Rattle.celp.specs.declared.State.{State}
-use Rattle.celp.specs.State.{allZero, marked, fault, initial, startedBy, started}
+use Rattle.celp.specs.State.{allZero, fallen, fault, initial, startedBy, started}
 use Rattle.celp.specs.Celp.{refusal, refused, carried, decoded, accepted, answer, decode, written, samples}
 
 module _ (words : List ℤ) (bytes : List ℕ) (m : ℕ) where
@@ -27,16 +27,16 @@ module _ (words : List ℤ) (bytes : List ℕ) (s : State) (payload : List ℕ) 
   decode-refused room zero e h = absurd (h refl)
   decode-refused room (suc n) e h = rw (← e)
 
-  -- the state of a refused decode is the one that came, with mark 0
-  pub refused-state : (room : ℕ) → (refusal words bytes s payload room ≡ 0 → ⊥) → decode words bytes s payload room .state ≡ marked s 0
+  -- the state of a refused decode is the one that came, with neither mark nor sureness
+  pub refused-state : (room : ℕ) → (refusal words bytes s payload room ≡ 0 → ⊥) → decode words bytes s payload room .state ≡ fallen s
   unfolding decode answer refused
   refused-state room h = by (refusal words bytes s payload room) h
     where
-      by : (n : ℕ) → (n ≡ 0 → ⊥) → answer n words bytes s payload .state ≡ marked s 0
+      by : (n : ℕ) → (n ≡ 0 → ⊥) → answer n words bytes s payload .state ≡ fallen s
       by zero h = absurd (h refl)
       by (suc n) h = refl
 
-  pub decode-accepted : (room : ℕ) → refusal words bytes s payload room ≡ 0 → accepted (s .mark) (decoded words bytes s payload) ≡ decode words bytes s payload room
+  pub decode-accepted : (room : ℕ) → refusal words bytes s payload room ≡ 0 → accepted (s .mark) (s .sure) (decoded words bytes s payload) ≡ decode words bytes s payload room
   unfolding decode answer
   decode-accepted room e = rw e
 

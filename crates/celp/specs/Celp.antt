@@ -18,9 +18,11 @@ use Rattle.core.specs.declared.Core.{Core}
 use Rattle.frame.specs.declared.Subframe.{Subframe}
 use Rattle.frame.specs.declared.Decoded.{Decoded}
 use Rattle.frame.specs.Frame as Frame
+use Rattle.sure.specs.declared.Sure.{Sure}
+use Rattle.sure.specs.Sure as Sure
 use Rattle.celp.specs.declared.State.{State}
 use Rattle.celp.specs.declared.Answer.{Answer}
-use Rattle.celp.specs.State.{marked, obeys, fault}
+use Rattle.celp.specs.State.{fallen, obeys, fault}
 
 -- ---- refusals
 -- the number of the first case that holds, in document 01's order, or 0; room is how long the sample buffer is
@@ -55,9 +57,9 @@ silent =
 unfoldable pub unclipped : Clipped
 unclipped = record { prediction = 0; mixing = 0; synthesis = 0; output = 0 }
 
--- 0 in every part but the number and what it tells, and the state with mark 0
+-- 0 in every part but the number and what it tells, and the state with mark 0, sure of nothing
 unfoldable pub refused : ℕ → Fault → State → Answer
-refused n f s = record { number = n; rule = f .rule; place = f .place; mark = 0; state = marked s 0; excitation = replicate 320 (pos 0); subframes = replicate 4 silent; clipped = replicate 4 unclipped }
+refused n f s = record { number = n; rule = f .rule; place = f .place; mark = 0; state = fallen s; excitation = replicate 320 (pos 0); subframes = replicate 4 silent; clipped = replicate 4 unclipped; sure = replicate 4 0 }
 
 -- ---- acceptance
 -- the parts of the state that a half frame carries on, and back
@@ -73,8 +75,8 @@ carried s =
       gains = s .gains;
     }
 
-unfoldable pub next : Decoded → ℕ → State
-next d m =
+unfoldable pub next : Decoded → ℕ → ℕ → State
+next d m w =
     record {
       lsp = d .core .lsp;
       excitation = d .core .excitation;
@@ -86,6 +88,7 @@ next d m =
       residuals = d .residuals;
       gains = d .core .gains;
       mark = m;
+      sure = w;
     }
 
 -- the frame, from the state's parts
@@ -101,13 +104,15 @@ raised-from-0 : (raised 0 ≡ 1) × (raised 1 ≡ 2) × (raised 2 ≡ 2)
 unfolding raised
 raised-from-0 = (refl, refl, refl)
 
--- answered with the mark that the frame came with
-unfoldable pub accepted : ℕ → Decoded → Answer
-accepted m d = record { number = 0; rule = 0; place = 0; mark = m; state = next d (raised m); excitation = d .excitation; subframes = d .subframes; clipped = d .clipped }
+-- answered with the mark that the frame came with, and by how sure the excitation before it was
+unfoldable pub accepted : ℕ → ℕ → Decoded → Answer
+accepted m w d =
+    let a : Sure = Sure.after m w (d .«pitch_gains») in
+    record { number = 0; rule = 0; place = 0; mark = m; state = next d (raised m) (a .left); excitation = d .excitation; subframes = d .subframes; clipped = d .clipped; sure = a .subframes }
 
 -- ---- the call: its answer, and the sample buffer, which a refusal leaves as it was
 unfoldable pub answer : ℕ → List ℤ → List ℕ → State → List ℕ → Answer
-answer zero words bytes s payload = accepted (s .mark) (decoded words bytes s payload)
+answer zero words bytes s payload = accepted (s .mark) (s .sure) (decoded words bytes s payload)
 answer (suc n) words bytes s payload = refused (suc n) (fault (suc n) words bytes) s
 
 unfoldable pub decode : List ℤ → List ℕ → State → List ℕ → ℕ → Answer

@@ -11,7 +11,7 @@ use lib.ListN.{length, take, drop}
 use Rattle.sequence.specs.All.{and-left, and-right}
 use Rattle.celp.specs.declared.State.{State}
 use Rattle.celp.specs.declared.Returned.{Returned}
-use Rattle.celp.specs.State.{marked, fault}
+use Rattle.celp.specs.State.{fallen, fault}
 use Rattle.celp.specs.Celp as Celp
 use Rattle.celp.specs.Celp.{decode}
 use Rattle.celp.specs.Run.{Event, heard, run}
@@ -88,7 +88,7 @@ module _ (words : List ℤ) (bytes : List ℕ) where
   -- ---- the call: what it returns, and the two rooms, which a refusal leaves as they were
   unfoldable pub returned : ℕ → State → List ℕ → Returned
   returned zero s payloads = record { number = 0; rule = 0; place = 0; state = run words bytes s (heards (frames payloads)) }
-  returned (suc n) s payloads = record { number = suc n; rule = fault (suc n) words bytes .rule; place = fault (suc n) words bytes .place; state = marked s 0 }
+  returned (suc n) s payloads = record { number = suc n; rule = fault (suc n) words bytes .rule; place = fault (suc n) words bytes .place; state = fallen s }
 
   unfoldable pub decodeFrames : State → List ℕ → ℕ → ℕ → Returned
   decodeFrames s payloads room answers = returned (framesRefusal words bytes s payloads room answers) s payloads
@@ -110,7 +110,7 @@ module _ (words : List ℤ) (bytes : List ℕ) where
 -- ---- the two ways that the call goes
 module _ (words : List ℤ) (bytes : List ℕ) (s : State) (payloads : List ℕ) (old : List ℤ) (told : List ℕ) where
   pub frames-refused : (n : ℕ) → n ≡ framesRefusal words bytes s payloads (length old) (length told) → (n ≡ 0 → ⊥)
-      → (record { number = n; rule = fault n words bytes .rule; place = fault n words bytes .place; state = marked s 0 } ≡ decodeFrames words bytes s payloads (length old) (length told))
+      → (record { number = n; rule = fault n words bytes .rule; place = fault n words bytes .place; state = fallen s } ≡ decodeFrames words bytes s payloads (length old) (length told))
       × (old ≡ framesSamples words bytes s payloads old (length told)) × (told ≡ framesNumbers words bytes s payloads (length old) told)
   unfolding decodeFrames returned framesSamples samplesBy framesNumbers numbersBy
   frames-refused zero e h = absurd (h refl)

@@ -13,4 +13,6 @@ pub mod StateRule
 pub mod Near
 pub mod Receiver
 pub mod Relied
+pub mod SureAgain
+pub mod Regained
 pub mod WorkedCall

@@ -8,7 +8,7 @@ use lib.IntN.{ℤ}
 use lib.ListN.{length}
 use Rattle.celp.specs.declared.State.{State}
 use Rattle.tables.specs.Tables.{check}
-use Rattle.celp.specs.State.{marked, initial, startedBy, started, reset, coldStart, missedFrame}
+use Rattle.celp.specs.State.{fallen, initial, startedBy, started, reset, coldStart, missedFrame}
 use Rattle.celp.specs.Celp.{refusal, raised, accepted, next, answer, decode}
 use Rattle.celp.specs.Cases.{refused-state}
 use Rattle.celp.specs.Run.{Event, heard, missed, step, run, run-append}
@@ -20,10 +20,10 @@ module _ (words : List ℤ) (bytes : List ℕ) where
   unfolding reset started startedBy initial
   mark-reset e = rw e
 
-  -- and a cold start the same state with 0
-  pub cold-is-marked : check words bytes ≡ 0 → coldStart words bytes .state ≡ marked (reset words bytes .state) 0
+  -- and a cold start the same state with 0 and 0
+  pub cold-is-fallen : check words bytes ≡ 0 → coldStart words bytes .state ≡ fallen (reset words bytes .state)
   unfolding coldStart reset started startedBy initial
-  cold-is-marked e = rw e
+  cold-is-fallen e = rw e
 
   -- ---- one call
   module _ (s : State) (payload : List ℕ) (room : ℕ) where

@@ -23,20 +23,20 @@ use Rattle.celp.specs.Receiver.{after, afterAll, Call, START, Joins, at-
 
 module _ (words : List ℤ) (bytes : List ℕ) where
   -- ---- a call in two parts
-  after-append : (t : State) (a b : List (List ℕ)) → afterAll words bytes t (a ++ b) ≡ afterAll words bytes (afterAll words bytes t a) b
+  pub after-append : (t : State) (a b : List (List ℕ)) → afterAll words bytes t (a ++ b) ≡ afterAll words bytes (afterAll words bytes t a) b
   after-append t [] b = refl
   after-append t (x ∷ a) b = after-append (after words bytes t x) a b
 
-  call-first : (t : State) (a b : List (List ℕ)) → Call words bytes t (a ++ b) → Call words bytes t a
+  pub call-first : (t : State) (a b : List (List ℕ)) → Call words bytes t (a ++ b) → Call words bytes t a
   call-first t [] b c = tt
   call-first t (x ∷ a) b c = (c .0, call-first (after words bytes t x) a b (c .1))
 
-  call-rest : (t : State) (a b : List (List ℕ)) → Call words bytes t (a ++ b) → Call words bytes (afterAll words bytes t a) b
+  pub call-rest : (t : State) (a b : List (List ℕ)) → Call words bytes t (a ++ b) → Call words bytes (afterAll words bytes t a) b
   call-rest t [] b c = c
   call-rest t (x ∷ a) b c = call-rest (after words bytes t x) a b (c .1)
 
   -- ---- along both
-  joined : (before : List (List ℕ)) (s : State) → Joins words bytes before s → Near s (afterAll words bytes (START words bytes) before)
+  pub joined : (before : List (List ℕ)) (s : State) → Joins words bytes before s → Near s (afterAll words bytes (START words bytes) before)
   joined before s at-first = near-self s
   joined before s (anywhere b r z) = near-zero s _ z
 
@@ -64,7 +64,7 @@ module _ (words : List ℤ) (bytes : List ℕ) where
         by (suc k) m = absurd (omega arith)
 
   -- a frame as it was sent, whether it is accepted or not
-  near-whole : (s t : State) (frame : List ℕ) → Near s t → refusal words bytes t frame 320 ≡ 0 → Near (step words bytes s (heard frame 320)) (after words bytes t frame)
+  pub near-whole : (s t : State) (frame : List ℕ) → Near s t → refusal words bytes t frame 320 ≡ 0 → Near (step words bytes s (heard frame 320)) (after words bytes t frame)
   unfolding step
   near-whole s t frame n a = by (refusal words bytes s frame 320) refl
     where

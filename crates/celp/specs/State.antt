@@ -18,7 +18,7 @@ use Rattle.spectral.specs.Spectral as Spectral
 use Rattle.celp.specs.declared.State.{State}
 use Rattle.celp.specs.declared.Returned.{Returned}
 
--- a state with no sample in it yet
+-- a state with no sample in it yet; it is as sure as its mark is high
 abbrev pub blank : List ℤ → ℤ → ℤ → List Float → List Float → ℕ → State
 blank lsp sharpenFixed lastHalfLag residuals gains mark =
     record {
@@ -32,15 +32,16 @@ blank lsp sharpenFixed lastHalfLag residuals gains mark =
       residuals = residuals;
       gains = gains;
       mark = mark;
+      sure = mark;
     }
 
 -- every part 0
 unfoldable pub allZero : State
 allZero = blank (replicate 10 (pos 0)) (pos 0) (pos 0) (replicate 30 (ofBits binary32 0)) (replicate 4 (ofBits binary32 0)) 0
 
--- the same state with another mark
-abbrev pub marked : State → ℕ → State
-marked s m =
+-- the same state with another mark, and sure as it is said
+abbrev pub marked : State → ℕ → ℕ → State
+marked s m w =
     record {
       lsp = s .lsp;
       excitation = s .excitation;
@@ -52,16 +53,21 @@ marked s m =
       residuals = s .residuals;
       gains = s .gains;
       mark = m;
+      sure = w;
     }
 
--- the state rule: each float finite and within ±131,072, mark 0..=2
-unfoldable pub obeys : State → Bool
-obeys s = all (within 131072) (s .residuals) && (all (within 131072) (s .gains) && leb (s .mark) 2)
+-- with neither
+abbrev pub fallen : State → State
+fallen s = marked s 0 0
 
--- the all-zero state obeys it, and with a mark of 3 it does not
-zero-obeys : (obeys allZero ≡ true) × (obeys (marked allZero 3) ≡ false)
+-- the state rule: each float finite and within ±131,072, mark and sure 0..=2
+unfoldable pub obeys : State → Bool
+obeys s = all (within 131072) (s .residuals) && (all (within 131072) (s .gains) && (leb (s .mark) 2 && leb (s .sure) 2))
+
+-- the all-zero state obeys it, and with a 3 in either it does not
+zero-obeys : (obeys allZero ≡ true) × (obeys (marked allZero 3 0) ≡ false) × (obeys (marked allZero 0 3) ≡ false)
 unfolding obeys allZero ofBits within
-zero-obeys = (refl, refl)
+zero-obeys = (refl, refl, refl)
 
 -- which set rule was broken and where, told under refusal 4; under every other number, and on acceptance, 0 and 0
 unfoldable pub fault : ℕ → List ℤ → List ℕ → Fault
@@ -83,14 +89,14 @@ startedBy (suc n) words bytes m = record { number = suc n; rule = fault (suc n) 
 unfoldable pub started : List ℤ → List ℕ → ℕ → Returned
 started words bytes m = startedBy (check words bytes) words bytes m
 
--- reset gives mark 2
+-- reset gives mark 2, and it is sure
 unfoldable pub reset : List ℤ → List ℕ → Returned
 reset words bytes = started words bytes 2
 
--- a cold start the same state with 0
+-- a cold start the same state with 0 and 0
 unfoldable pub coldStart : List ℤ → List ℕ → Returned
 coldStart words bytes = started words bytes 0
 
--- a missed frame sets the mark to 0, and answers 5 to a state that breaks the rule
+-- a missed frame sets both to 0, and answers 5 to a state that breaks the rule
 unfoldable pub missedFrame : State → Returned
-missedFrame s = record { number = cond (obeys s) 0 5; rule = 0; place = 0; state = marked s 0 }
+missedFrame s = record { number = cond (obeys s) 0 5; rule = 0; place = 0; state = fallen s }

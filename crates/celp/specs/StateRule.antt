@@ -21,6 +21,7 @@ use Rattle.gain.specs.Kept.{initial-bounded}
 use Rattle.spectral.specs.Spectral as Spectral
 use Rattle.spectral.specs.Kept.{Words16, initial-kept}
 use Rattle.frame.specs.Kept.{Kept, decode-kept}
+use Rattle.sure.specs.Sure.{after, left-le}
 use Rattle.celp.specs.declared.State.{State}
 use Rattle.celp.specs.State as State
 use Rattle.celp.specs.Celp.{refusal, raised, carried, decoded, next, accepted, answer, decode}
@@ -51,7 +52,7 @@ unfolding State.obeys
 floats-within s e =
     let r = all (within 131072) (s .residuals) in
     let g = all (within 131072) (s .gains) in
-    let m = leb (s .mark) 2 in
+    let m = leb (s .mark) 2 && leb (s .sure) 2 in
     (and-left r (g && m) e, and-left g m (and-right r (g && m) e))
 
 pub kept : (s : State) → Obeying s → Kept (s .residuals) (s .gains)
@@ -64,18 +65,18 @@ kept s o =
       gains-within = each (s .gains) 4 (o .gains-long) (w .1);
     }
 
-obeying : (s : State) → Kept (s .residuals) (s .gains) → leb (s .mark) 2 ≡ true → Obeying s
+obeying : (s : State) → Kept (s .residuals) (s .gains) → leb (s .mark) 2 ≡ true → leb (s .sure) 2 ≡ true → Obeying s
 unfolding State.obeys
-obeying s k m =
+obeying s k m u =
     record {
       residuals-long = k .residuals-long;
       gains-long = k .gains-long;
-      rule = rw (of-each (s .residuals) 30 (k .residuals-long) (k .residuals-within), of-each (s .gains) 4 (k .gains-long) (k .gains-within), m);
+      rule = rw (of-each (s .residuals) 30 (k .residuals-long) (k .residuals-within), of-each (s .gains) 4 (k .gains-long) (k .gains-within), m, u);
     }
 
--- another mark of 0..=2 breaks nothing
-pub marked-obeying : (s : State) → Obeying s → Obeying (State.marked s 0)
-marked-obeying s o = let k = kept s o in obeying (State.marked s 0) k refl
+-- 0 for both breaks nothing
+pub fallen-obeying : (s : State) → Obeying s → Obeying (State.fallen s)
+fallen-obeying s o = let k = kept s o in obeying (State.fallen s) k refl refl
 
 -- ---- the calls
 module _ (words : List ℤ) (bytes : List ℕ) (w : Words16 words) where
@@ -87,6 +88,7 @@ module _ (words : List ℤ) (bytes : List ℕ) (w : Words16 words) where
       obeying (State.initial words bytes m)
       (record { residuals-long = length-table (Spectral.initialAt words) 30; residuals-within = initial-kept words w; gains-long = refl; gains-within = initial-bounded b })
       l
+      l
 
   -- an accepted frame
   pub accepted-obeying : (s : State) (payload : List ℕ) (room : ℕ) → Obeying s → refusal words bytes s payload room ≡ 0 → Obeying (decode words bytes s payload room .state)
@@ -94,20 +96,20 @@ module _ (words : List ℤ) (bytes : List ℕ) (w : Words16 words) where
   accepted-obeying s payload room o z =
       let a = accepted-means words bytes s payload room z in
       let i = within-names (fieldsOf payload) (fields-within payload) in
-      rw z (obeying (next (decoded words bytes s payload) (raised (s .mark))) (decode-kept w (a .set-sound) (carried s) (s .residuals) (fieldsOf payload) (i .0) (i .1) (kept s o)) (le-leb (raised (s .mark)) 2 (omega arith)))
+      rw z (obeying (next (decoded words bytes s payload) (raised (s .mark)) (after (s .mark) (s .sure) (decoded words bytes s payload .«pitch_gains») .left)) (decode-kept w (a .set-sound) (carried s) (s .residuals) (fieldsOf payload) (i .0) (i .1) (kept s o)) (le-leb (raised (s .mark)) 2 (omega arith)) (le-leb _ 2 (left-le (s .mark) (s .sure) (decoded words bytes s payload .«pitch_gains»))))
 
-  -- any decode: a refused one hands the state back with mark 0
+  -- any decode: a refused one hands the state back with 0 and 0
   pub decode-obeying : (s : State) (payload : List ℕ) (room : ℕ) → Obeying s → Obeying (decode words bytes s payload room .state)
   decode-obeying s payload room o = by (refusal words bytes s payload room) refl
     where
       by : (n : ℕ) → refusal words bytes s payload room ≡ n → Obeying (decode words bytes s payload room .state)
       by zero e = accepted-obeying s payload room o e
-      by (suc n) e = rw (refused-state words bytes s payload room (λ z. omega arith)) (marked-obeying s o)
+      by (suc n) e = rw (refused-state words bytes s payload room (λ z. omega arith)) (fallen-obeying s o)
 
   step-obeying : (s : State) (e : Event) → Obeying s → Obeying (step words bytes s e)
   unfolding step State.missedFrame
   step-obeying s (heard payload room) o = decode-obeying s payload room o
-  step-obeying s missed o = marked-obeying s o
+  step-obeying s missed o = fallen-obeying s o
 
   -- ---- any sequence of calls
   pub run-obeying : (s : State) (es : List Event) → Obeying s → Obeying (run words bytes s es)

@@ -7,10 +7,15 @@ use lib.ListN.{length}
 use Rattle.bits.specs.Bits.{fieldsOf}
 use Rattle.frame.specs.declared.Decoded.{Decoded}
 use Rattle.frame.specs.Frame as Frame
+use Rattle.sure.specs.Sure.{after}
 use Rattle.celp.specs.declared.State.{State}
 use Rattle.celp.specs.declared.Answer.{Answer}
 use Rattle.celp.specs.Celp.{refusal, raised, carried, next, decoded, accepted, decode, samples}
 use Rattle.celp.specs.Cases.{decode-accepted, samples-accepted}
+
+-- how sure the excitation behind a frame is
+abbrev sure : State → Decoded → ℕ
+sure s d = after (s .mark) (s .sure) (d .«pitch_gains») .left
 
 module _ (words : List ℤ) (bytes : List ℕ) (s : State) (one two : List ℕ) (old : List ℤ) where
   -- what the first frame leaves, and the state that its call returns
@@ -22,13 +27,13 @@ module _ (words : List ℤ) (bytes : List ℕ) (s : State) (one two : List ℕ) 
 
   module _ (a : refusal words bytes s one (length old) ≡ 0) (b : refusal words bytes between two (length old) ≡ 0) where
     -- the state that is handed on is what the first frame left
-    pub handed-on : between ≡ next first (raised (s .mark))
+    pub handed-on : between ≡ next first (raised (s .mark)) (sure s first)
     unfolding accepted decoded
     handed-on = ap (λ (x : Answer). x .state) (sym (decode-accepted words bytes s one (length old) a))
 
-    pub second-answer : decode words bytes between two (length old) ≡ accepted (raised (s .mark)) (Frame.decode words bytes (first .core) (first .residuals) (fieldsOf two))
+    pub second-answer : decode words bytes between two (length old) ≡ accepted (raised (s .mark)) (sure s first) (Frame.decode words bytes (first .core) (first .residuals) (fieldsOf two))
     unfolding decoded carried next
-    second-answer = sym (decode-accepted words bytes between two (length old) b) ∙ ap (λ (t : State). accepted (t .mark) (decoded words bytes t two)) handed-on
+    second-answer = sym (decode-accepted words bytes between two (length old) b) ∙ ap (λ (t : State). accepted (t .mark) (t .sure) (decoded words bytes t two)) handed-on
 
     pub second-samples : samples words bytes between two old ≡ Frame.samples words bytes (first .core) (first .residuals) (fieldsOf two)
     unfolding carried next

@@ -1,6 +1,6 @@
 -- A worked call: document 01's bare set and zero frames meet every premise of what a receiver may rely on.
 use Prim.Native.Nat.{ℕ, zero, suc, _<_, _≤_}
-use mathlib.Core.Path.{_≡_, refl}
+use mathlib.Core.Path.{_≡_, refl, sym, ap, _∙_}
 use mathlib.Core.Bool.{Bool, true, false}
 use mathlib.Core.List.{List, [], _∷_, _++_}
 use native.Mathlib.Omega.{arith}
@@ -8,25 +8,36 @@ use borrow.Author.Tests.{ltb-true, ltb-false}
 use lib.Dec.{ltb}
 use lib.IntN.{ℤ, pos}
 use lib.Signed.{mag}
-use lib.ListN.{length, replicate, set, List·getD-eq-default}
+use lib.ListN.{length, getD, replicate, set, List·getD-eq-default}
+use lib.Ieee.{ofBits}
 use Rattle.sequence.specs.All.{all, all-at}
 use Rattle.sequence.specs.First.{firstFrom}
 use Rattle.tables.specs.Tables.{word}
 use Rattle.tables.specs.Rules.{tests}
 use Rattle.tables.specs.Bare.{bareWords, bareBytes, fromLimit, fromBases, fromPulses, fromSelectors, fromEntries, bare-accepted}
-use Rattle.bits.specs.Bits.{groups, inverted, bitAt, readBit, gather, fieldsOf}
+use Rattle.floats.specs.Floats.{bitsAt, quantise}
+use Rattle.bits.specs.Bits.{groups, inverted, bitAt, readBit, gather, fieldsOf, gainIndex}
 use Rattle.codebook.specs.Codebook as Codebook
 use Rattle.spectral.specs.Kept.{Words16}
+use Rattle.core.specs.Core.{part}
+use Rattle.core.specs.Figures.{pitchGain, pitch-gains}
+use Rattle.frame.specs.declared.Decoded.{Decoded}
 use Rattle.frame.specs.Frame as Frame
+use Rattle.sure.specs.Sure.{surer, holds, through, after}
 use Rattle.celp.specs.declared.State.{State}
 use Rattle.celp.specs.declared.Answer.{Answer}
-use Rattle.celp.specs.State.{obeys, reset, coldStart}
-use Rattle.celp.specs.Celp.{refusal, decode}
+use Rattle.celp.specs.declared.Returned.{Returned}
+use Rattle.celp.specs.State.{obeys, initial, reset, coldStart}
+use Rattle.celp.specs.Celp.{refusal, carried, decoded, accepted, decode}
+use Rattle.celp.specs.Cases.{started-accepted, decode-accepted}
+use Rattle.celp.specs.Mark.{mark-answered, mark-rises}
 use Rattle.celp.specs.Run.{Event, heard, missed, step, run}
 use Rattle.celp.specs.Accepted.{accepted-means}
 use Rattle.celp.specs.StateRule.{Obeying, decode-obeying, run-obeying}
-use Rattle.celp.specs.Receiver.{after, afterAll, Call, START, at-first, begun, whole, between, without}
+use Rattle.celp.specs.Receiver as Receiver
+use Rattle.celp.specs.Receiver.{afterAll, Call, START, at-first, begun, whole, between, without}
 use Rattle.celp.specs.Relied.{receiver-may-rely, started-obeying, cold-joins}
+use Rattle.celp.specs.Regained.{sure-again}
 
 -- the zero frame, and a payload that its last byte has refused
 unfoldable ZERO : List ℕ
@@ -91,10 +102,18 @@ cold-obeys : Obeying COLD
 unfolding coldStart
 cold-obeys = started-obeying bareWords bareBytes bare16 bare-accepted 0 refl
 
+cold-mark : COLD .mark ≡ 0
+unfolding coldStart initial
+cold-mark = ap (λ (r : Returned). r .state .mark) (sym (started-accepted bareWords bareBytes 0 bare-accepted))
+
+cold-long : length (COLD .excitation) ≡ 154
+unfolding coldStart initial
+cold-long = ap (λ (r : Returned). length (r .state .excitation)) (sym (started-accepted bareWords bareBytes 0 bare-accepted))
+
 -- ---- a call of any number of zero frames
 zero-call : (n : ℕ) (t : State) → Obeying t → Call bareWords bareBytes t (replicate n ZERO)
 zero-call zero t o = tt
-zero-call (suc n) t o = (zero-accepted t (o .rule), zero-call n (after bareWords bareBytes t ZERO) (decode-obeying bareWords bareBytes bare16 t ZERO 320 o))
+zero-call (suc n) t o = (zero-accepted t (o .rule), zero-call n (Receiver.after bareWords bareBytes t ZERO) (decode-obeying bareWords bareBytes bare16 t ZERO 320 o))
 
 -- once two of them are heard in a row the next is answered with mark 2
 two-heard : (s : State) → Obeying s → answered s (zeroHeard ∷ zeroHeard ∷ []) .mark ≡ 2
@@ -125,3 +144,41 @@ fifth =
     let m = two-heard COLD cold-obeys in
     let twice = replicate 2 ZERO in
     (m, receiver-may-rely bareWords bareBytes .figures twice twice ZERO COLD (zeroHeard ∷ zeroHeard ∷ []) (zero-call 5 RESET reset-obeys) (cold-joins bareWords bareBytes twice) (whole (whole begun)) m)
+
+-- ---- the same receiver becomes sure
+-- every pitch gain of a zero frame over the bare set is 0
+no-gain : (pitchGain bareBytes (gainIndex (fieldsOf ZERO .first) 0) ≡ pos 0) × (pitchGain bareBytes (gainIndex (fieldsOf ZERO .first) 1) ≡ pos 0)
+    × (pitchGain bareBytes (gainIndex (fieldsOf ZERO .second) 0) ≡ pos 0) × (pitchGain bareBytes (gainIndex (fieldsOf ZERO .second) 1) ≡ pos 0)
+unfolding ZERO pitchGain gainIndex groups inverted bitAt readBit gather fieldsOf bareBytes bitsAt ofBits quantise
+no-gain = (refl, refl, refl, refl)
+
+no-gains : (s : State) → decoded bareWords bareBytes s ZERO .«pitch_gains» ≡ replicate 4 (pos 0)
+unfolding decoded Frame.decode Frame.report Frame.halves Frame.half Frame.pitchGains
+no-gains s =
+    let p = pitch-gains bareWords bareBytes (carried s) (Frame.lsp bareWords bareBytes (s .residuals) (fieldsOf ZERO .first)) (fieldsOf ZERO .first) in
+    let q = pitch-gains bareWords bareBytes _ (Frame.lsp bareWords bareBytes _ (fieldsOf ZERO .second)) (fieldsOf ZERO .second) in
+    λ i. (p .0 ∙ no-gain .0) i ∷ (p .1 ∙ no-gain .1) i ∷ (q .0 ∙ no-gain .2) i ∷ (q .1 ∙ no-gain .3) i ∷ []
+
+-- so a frame that comes with mark 2, and sure of nothing, is sure from its second subframe on
+from-second : (m w : ℕ) (d : Decoded) → m ≡ 2 → w ≡ 0 → d .«pitch_gains» ≡ replicate 4 (pos 0) → accepted m w d .sure ≡ 0 ∷ 1 ∷ 1 ∷ 1 ∷ []
+unfolding accepted after through surer holds
+from-second m w d a b g = rw (a, b, g) refl
+
+-- as is the fifth frame of the one that joined cold at the third
+sure-fifth : answered COLD (zeroHeard ∷ zeroHeard ∷ []) .sure ≡ 0 ∷ 1 ∷ 1 ∷ 1 ∷ []
+unfolding run
+sure-fifth =
+    let one = run bareWords bareBytes COLD (zeroHeard ∷ []) in
+    let two = run bareWords bareBytes COLD (zeroHeard ∷ zeroHeard ∷ []) in
+    let a = zero-accepted one (run-obeying bareWords bareBytes bare16 COLD (zeroHeard ∷ []) cold-obeys .rule) in
+    let b = zero-accepted two (run-obeying bareWords bareBytes bare16 COLD (zeroHeard ∷ zeroHeard ∷ []) cold-obeys .rule) in
+    let risen = mark-rises bareWords bareBytes COLD ZERO 320 (zero-accepted COLD (cold-obeys .rule)) in
+    let m = sym (mark-answered bareWords bareBytes two ZERO 320 b) ∙ two-heard COLD cold-obeys in
+    let w = sure-again bareWords bareBytes .below-two one ZERO 320 a (omega (arith, risen, cold-mark)) .0 in
+    sym (ap (λ (x : Answer). x .sure) (decode-accepted bareWords bareBytes two ZERO 320 b)) ∙ from-second _ _ _ m w (no-gains two)
+
+-- and so its second subframe has the sender's excitation
+fifth-excitation : part (answered COLD (zeroHeard ∷ zeroHeard ∷ []) .excitation) 80 ≡ part (sent 4 .excitation) 80
+fifth-excitation =
+    let twice = replicate 2 ZERO in
+    sure-again bareWords bareBytes .excitation twice twice ZERO COLD (zeroHeard ∷ zeroHeard ∷ []) (zero-call 5 RESET reset-obeys) (cold-joins bareWords bareBytes twice) cold-long (whole (whole begun)) 1 (omega arith) (ap (λ (l : List ℕ). getD l 1 0) sure-fifth)

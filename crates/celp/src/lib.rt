@@ -1,7 +1,8 @@
 // The decoder's calls: reset, cold start, decode, missed frame. A state is handed in and handed back whole.
 ghost use mathlib.Core.Path.{_≡_};
-ghost use mathlib.Core.Bool.{true};
+ghost use mathlib.Core.Bool.{true, _&&_};
 ghost use Prim.Native.Nat.{_*_};
+ghost use lib.Dec.{leb};
 ghost use lib.ListN.{length};
 ghost use Rattle.sequence.specs.All.{all};
 ghost use Rattle.floats.specs.Floats.{within};
@@ -24,7 +25,7 @@ use frame::Subframe;
 use postfilter::OutputFilter;
 use tables::Fault;
 
-// All that a decoder carries from frame to frame: what the halves carry on, the residuals, the gain history, and the mark.
+// All that a decoder carries from frame to frame: what the halves carry on, the residuals, the gain history, the mark, and how sure its excitation is.
 pub struct State {
     pub lsp: [i16; 10],
     pub excitation: [i16; 154],
@@ -36,6 +37,7 @@ pub struct State {
     pub residuals: [f32; 30],
     pub gains: [f32; 4],
     pub mark: u8,
+    pub sure: u8,
 }
 
 // What a decode answers: a refusal number, or 0, with 4 the set rule that is broken and its first offending place, the mark that the frame came with,
@@ -50,6 +52,8 @@ pub struct Answer {
     pub subframes: [Subframe; 4],
     // What was clipped in each of them.
     pub clipped: [Clipped; 4],
+    // Whether its excitation is sure to be the sender's, 0 or 1.
+    pub sure: [u8; 4],
 }
 
 // What reset, cold start and a missed frame give: a refusal number, or 0, with 4 the rule and the place, and a state.
@@ -75,15 +79,17 @@ pub fn all_zero() -> State
         residuals: [0.0; 30],
         gains: [0.0; 4],
         mark: 0,
+        sure: 0,
     }
 }
 
-// The same state with another mark.
-fn marked(state: State, mark: u8) -> State
-    ensures { λ r. ⌜ r ≡ marked state mark ⌝ }
+// The same state with another mark, and sure as it is said.
+fn marked(state: State, mark: u8, sure: u8) -> State
+    ensures { λ r. ⌜ r ≡ marked state mark sure ⌝ }
 {
     let mut s = state;
     s.mark = mark;
+    s.sure = sure;
     s
 }
 
@@ -102,6 +108,16 @@ fn all_within(floats: &[f32]) -> bool
     true
 }
 
+// Whether the last two numbers are within theirs.
+fn both_small(mark: u8, sure: u8) -> bool
+    ensures { λ r. ⌜ r ≡ (leb mark 2 && leb sure 2) ⌝ }
+{
+    if mark > 2 {
+        return false;
+    }
+    sure <= 2
+}
+
 // The state rule.
 pub fn obeys(state: State) -> bool
     ensures { λ r. ⌜ r ≡ obeys state ⌝ }
@@ -112,7 +128,7 @@ pub fn obeys(state: State) -> bool
     if !all_within(&state.gains) {
         return false;
     }
-    state.mark <= 2
+    both_small(state.mark, state.sure)
 }
 
 // Which set rule is broken and where: the set is looked through again, where it was refused with 4 and nowhere else.
@@ -159,6 +175,7 @@ fn initial(words: &[i16], bytes: &[u8], mark: u8) -> State
         residuals,
         gains,
         mark,
+        sure: mark,
     }
 }
 
@@ -184,25 +201,25 @@ fn started(words: &[i16], bytes: &[u8], mark: u8) -> Returned
     }
 }
 
-// The state that a call starts from, with mark 2, or where the set is refused the all-zero one.
+// The state that a call starts from, with mark 2 and sure 2, or where the set is refused the all-zero one.
 pub fn reset(words: &[i16], bytes: &[u8]) -> Returned
     ensures { λ r. ⌜ r ≡ reset (now (words .entry)) (now (bytes .entry)) ⌝ }
 {
     started(words, bytes, 2)
 }
 
-// The same state, with mark 0.
+// The same state, with 0 and 0.
 pub fn cold_start(words: &[i16], bytes: &[u8]) -> Returned
     ensures { λ r. ⌜ r ≡ coldStart (now (words .entry)) (now (bytes .entry)) ⌝ }
 {
     started(words, bytes, 0)
 }
 
-// The state with mark 0, and 5 where it does not obey the state rule.
+// The state with mark 0 and sure 0, and 5 where it does not obey the state rule.
 pub fn missed_frame(state: State) -> Returned
     ensures { λ r. ⌜ r ≡ missedFrame state ⌝ }
 {
-    let s = marked(state, 0);
+    let s = marked(state, 0, 0);
     if obeys(state) {
         return Returned {
             number: 0,
@@ -319,7 +336,7 @@ fn unclipped() -> Clipped
 fn refused(number: u8, told: Fault, state: State) -> Answer
     ensures { λ r. ⌜ r ≡ Celp.refused number told state ⌝ }
 {
-    let left = marked(state, 0);
+    let left = marked(state, 0, 0);
     let nothing = silent();
     let none = unclipped();
     Answer {
@@ -331,6 +348,7 @@ fn refused(number: u8, told: Fault, state: State) -> Answer
         excitation: [0; 320],
         subframes: [nothing; 4],
         clipped: [none; 4],
+        sure: [0; 4],
     }
 }
 
@@ -357,8 +375,8 @@ fn carried(state: State) -> Core
 }
 
 // The state that a frame leaves.
-fn next(d: Decoded, mark: u8) -> State
-    ensures { λ r. ⌜ r ≡ Celp.next d mark ⌝ }
+fn next(d: Decoded, mark: u8, sure: u8) -> State
+    ensures { λ r. ⌜ r ≡ Celp.next d mark sure ⌝ }
 {
     let c = d.core;
     let lsp = c.lsp;
@@ -380,6 +398,7 @@ fn next(d: Decoded, mark: u8) -> State
         residuals,
         gains,
         mark,
+        sure,
     }
 }
 
@@ -390,12 +409,15 @@ fn raised(mark: u8) -> u8
     if mark < 2 { mark + 1 } else { 2 }
 }
 
-// The answer to a frame that is accepted; `came` is the mark that it came with.
-fn accepted(came: u8, d: Decoded) -> Answer
-    ensures { λ r. ⌜ r ≡ Celp.accepted came d ⌝ }
+// The answer to a frame that is accepted; `came` is the mark that it came with, `w` how sure the excitation before it was.
+fn accepted(came: u8, w: u8, d: Decoded) -> Answer
+    ensures { λ r. ⌜ r ≡ Celp.accepted came w d ⌝ }
 {
     let after = raised(came);
-    let state = next(d, after);
+    let gains = d.pitch_gains;
+    let s = sure::after(came, w, gains);
+    let state = next(d, after, s.left);
+    let sure = s.subframes;
     let excitation = d.excitation;
     let subframes = d.subframes;
     let clipped = d.clipped;
@@ -408,6 +430,7 @@ fn accepted(came: u8, d: Decoded) -> Answer
         excitation,
         subframes,
         clipped,
+        sure,
     }
 }
 
@@ -430,7 +453,7 @@ fn answered(
     }
     let residuals = state.residuals;
     let d = frame::decode(words, bytes, carried(state), residuals, f, samples);
-    accepted(state.mark, d)
+    accepted(state.mark, state.sure, d)
 }
 
 // A frame: what it is answered with. The samples are written where it is accepted.
@@ -524,7 +547,7 @@ pub fn decode_frames(
             number,
             rule: told.rule,
             place: told.place,
-            state: marked(state, 0),
+            state: marked(state, 0, 0),
         };
     }
     are_words(words);

@@ -5,7 +5,7 @@ use mathlib.Core.List.{List, [], map, append-nil}
 use native.Mathlib.Omega.{arith}
 use borrow.Author.Tests.{eq-eqb, ne-eqb}
 use lib.IntN.{ℤ, pos}
-use lib.ListN.{length, take, drop, set, replicate, length-map, length-drop, length-replicate, getD-replicate}
+use lib.ListN.{length, take, drop, replicate, length-map, length-drop, length-replicate, getD-replicate}
 use lib.Seq.{sets, sets-eq, take-all, drop-length}
 use Rattle.sequence.specs.Table.{table, table-of}
 use Rattle.celp.specs.declared.State.{State}
@@ -18,7 +18,7 @@ use Rattle.image.specs.Parts.{numbersAt, length-all}
 use Rattle.image.specs.Image.{signed, unsigned, image, state}
 use Rattle.desk.specs.Images.{refusal-small, image-started, missed-same, missed-image}
 use Rattle.desk.specs.FramesSame.{standing-long, frames-small, frames-room}
-use Rattle.desk.specs.Desk.{words, bytes, sampleBytes, zeros, barred, unmarked, begun, resetNumber, resetImage, coldNumber, coldImage, decodeNumber, decodeImage, decodeSamples, samplesIn, standing, framesNumber, framesImage, framesSamples, framesNumbers, missedNumber, missedImage}
+use Rattle.desk.specs.Desk.{lowered, words, bytes, sampleBytes, zeros, barred, unmarked, begun, resetNumber, resetImage, coldNumber, coldImage, decodeNumber, decodeImage, decodeSamples, samplesIn, standing, framesNumber, framesImage, framesSamples, framesNumbers, missedNumber, missedImage}
 
 -- ---- what a call on states answers is its refusal number
 pub number-is : (words : List ℤ) (bytes : List ℕ) (s : State) (payload : List ℕ) (room : ℕ) → Celp.decode words bytes s payload room .number ≡ Celp.refusal words bytes s payload room
@@ -64,38 +64,38 @@ zeros-table n = table-of (λ (k : ℕ). 0) 0 (zeros n) n (length-replicate n 0) 
 
 -- ---- reset and cold start
 module _ (tables b : List ℕ) where
-  pub reset-eleven : (length b ≡ 525 → ⊥) → (11 ≡ resetNumber tables b) × (b ≡ resetImage tables b)
+  pub reset-eleven : (length b ≡ 526 → ⊥) → (11 ≡ resetNumber tables b) × (b ≡ resetImage tables b)
   unfolding resetNumber resetImage barred begun
-  reset-eleven h = rw (ne-eqb (length b) 525 h) (refl, refl)
+  reset-eleven h = rw (ne-eqb (length b) 526 h) (refl, refl)
 
-  pub reset-one : length b ≡ 525 → (length tables ≡ 15834 → ⊥) → (1 ≡ resetNumber tables b) × (zeros 525 ≡ resetImage tables b)
+  pub reset-one : length b ≡ 526 → (length tables ≡ 15834 → ⊥) → (1 ≡ resetNumber tables b) × (zeros 526 ≡ resetImage tables b)
   unfolding resetNumber resetImage barred begun
-  reset-one h t = rw (eq-eqb (length b) 525 h, ne-eqb (length tables) 15834 t) (refl, refl)
+  reset-one h t = rw (eq-eqb (length b) 526 h, ne-eqb (length tables) 15834 t) (refl, refl)
 
-  pub cold-eleven : (length b ≡ 525 → ⊥) → (11 ≡ coldNumber tables b) × (b ≡ coldImage tables b)
+  pub cold-eleven : (length b ≡ 526 → ⊥) → (11 ≡ coldNumber tables b) × (b ≡ coldImage tables b)
   unfolding coldNumber coldImage barred begun
-  cold-eleven h = rw (ne-eqb (length b) 525 h) (refl, refl)
+  cold-eleven h = rw (ne-eqb (length b) 526 h) (refl, refl)
 
-  pub cold-one : length b ≡ 525 → (length tables ≡ 15834 → ⊥) → (1 ≡ coldNumber tables b) × (zeros 525 ≡ coldImage tables b)
+  pub cold-one : length b ≡ 526 → (length tables ≡ 15834 → ⊥) → (1 ≡ coldNumber tables b) × (zeros 526 ≡ coldImage tables b)
   unfolding coldNumber coldImage barred begun
-  cold-one h t = rw (eq-eqb (length b) 525 h, ne-eqb (length tables) 15834 t) (refl, refl)
+  cold-one h t = rw (eq-eqb (length b) 526 h, ne-eqb (length tables) 15834 t) (refl, refl)
 
-  module _ (h : length b ≡ 525) (t : length tables ≡ 15834) (r : Returned) (i : List ℕ) where
+  module _ (h : length b ≡ 526) (t : length tables ≡ 15834) (r : Returned) (i : List ℕ) where
     pub reset-told : r ≡ reset (words tables) (bytes tables) → i ≡ image (r .state) → (r .number ≡ resetNumber tables b) × (i ≡ resetImage tables b)
     unfolding resetNumber resetImage barred reset
-    reset-told e p = rw (eq-eqb (length b) 525 h, eq-eqb (length tables) 15834 t) (ap (λ (x : Returned). x .number) e, p ∙ ap (λ (x : Returned). image (x .state)) e ∙ image-started tables b 2)
+    reset-told e p = rw (eq-eqb (length b) 526 h, eq-eqb (length tables) 15834 t) (ap (λ (x : Returned). x .number) e, p ∙ ap (λ (x : Returned). image (x .state)) e ∙ image-started tables b 2)
 
     pub cold-told : r ≡ coldStart (words tables) (bytes tables) → i ≡ image (r .state) → (r .number ≡ coldNumber tables b) × (i ≡ coldImage tables b)
     unfolding coldNumber coldImage barred coldStart
-    cold-told e p = rw (eq-eqb (length b) 525 h, eq-eqb (length tables) 15834 t) (ap (λ (x : Returned). x .number) e, p ∙ ap (λ (x : Returned). image (x .state)) e ∙ image-started tables b 0)
+    cold-told e p = rw (eq-eqb (length b) 526 h, eq-eqb (length tables) 15834 t) (ap (λ (x : Returned). x .number) e, p ∙ ap (λ (x : Returned). image (x .state)) e ∙ image-started tables b 0)
 
 -- ---- a missed frame
 module _ (b : List ℕ) where
-  pub missed-eleven : (length b ≡ 525 → ⊥) → (11 ≡ missedNumber b) × (b ≡ missedImage b)
+  pub missed-eleven : (length b ≡ 526 → ⊥) → (11 ≡ missedNumber b) × (b ≡ missedImage b)
   unfolding missedNumber missedImage unmarked
-  missed-eleven h = rw (ne-eqb (length b) 525 h) (refl, refl)
+  missed-eleven h = rw (ne-eqb (length b) 526 h) (refl, refl)
 
-  pub missed-told : (r : Returned) → length b ≡ 525 → r ≡ missedFrame (state b) → (r .number ≡ missedNumber b) × (set b 524 0 ≡ missedImage b)
+  pub missed-told : (r : Returned) → length b ≡ 526 → r ≡ missedFrame (state b) → (r .number ≡ missedNumber b) × (lowered b ≡ missedImage b)
   missed-told r h e = (ap (λ (x : Returned). x .number) e ∙ sym (missed-same b h), sym (missed-image b h))
 
 -- ---- a frame
@@ -103,19 +103,19 @@ module _ (tables b payload old : List ℕ) where
   abbrev pub Told : ℕ → List ℕ → List ℕ → Type 0
   Told n i s = (n ≡ decodeNumber tables b payload (length old)) × ((i ≡ decodeImage tables b payload (length old)) × (s ≡ decodeSamples tables b payload old))
 
-  pub decode-eleven : (length b ≡ 525 → ⊥) → Told 11 b old
+  pub decode-eleven : (length b ≡ 526 → ⊥) → Told 11 b old
   unfolding decodeNumber decodeImage decodeSamples barred unmarked
-  decode-eleven h = rw (ne-eqb (length b) 525 h) (refl, (refl, refl))
+  decode-eleven h = rw (ne-eqb (length b) 526 h) (refl, (refl, refl))
 
-  module _ (h : length b ≡ 525) where
-    pub decode-one : (length tables ≡ 15834 → ⊥) → Told 1 (set b 524 0) old
+  module _ (h : length b ≡ 526) where
+    pub decode-one : (length tables ≡ 15834 → ⊥) → Told 1 (lowered b) old
     unfolding decodeNumber decodeImage decodeSamples barred unmarked
-    decode-one t = rw (eq-eqb (length b) 525 h, ne-eqb (length tables) 15834 t) (refl, (refl, refl))
+    decode-one t = rw (eq-eqb (length b) 526 h, ne-eqb (length tables) 15834 t) (refl, (refl, refl))
 
     module _ (t : length tables ≡ 15834) where
-      pub decode-two : (length old ≡ 640 → ⊥) → Told 2 (set b 524 0) old
+      pub decode-two : (length old ≡ 640 → ⊥) → Told 2 (lowered b) old
       unfolding decodeNumber decodeImage decodeSamples barred unmarked
-      decode-two r = rw (eq-eqb (length b) 525 h, eq-eqb (length tables) 15834 t, ne-eqb (length old) 640 r) (refl, (refl, refl))
+      decode-two r = rw (eq-eqb (length b) 526 h, eq-eqb (length tables) 15834 t, ne-eqb (length old) 640 r) (refl, (refl, refl))
 
       module _ (r : length old ≡ 640) (a : Answer) (e : a ≡ Celp.decode (words tables) (bytes tables) (state b) payload 320) where
         abbrev why : ℕ
@@ -126,9 +126,9 @@ module _ (tables b payload old : List ℕ) where
 
         reached : decodeNumber tables b payload (length old) ≡ why
         unfolding decodeNumber barred
-        reached = rw (eq-eqb (length b) 525 h, eq-eqb (length tables) 15834 t, eq-eqb (length old) 640 r)
+        reached = rw (eq-eqb (length b) 526 h, eq-eqb (length tables) 15834 t, eq-eqb (length old) 640 r)
 
-        pub decode-refused : (a .number ≡ 0 → ⊥) → Told (a .number) (set b 524 0) old
+        pub decode-refused : (a .number ≡ 0 → ⊥) → Told (a .number) (lowered b) old
         unfolding decodeImage decodeSamples unmarked
         decode-refused z =
             let l = refusal-small (words tables) (bytes tables) (state b) payload 320 in
@@ -171,14 +171,14 @@ module _ (tables b payloads old told : List ℕ) where
   abbrev pub AllTold : ℕ → List ℕ → List ℕ → List ℕ → Type 0
   AllTold n i s m = (n ≡ framesNumber tables b payloads (length old) (length told)) × ((i ≡ framesImage tables b payloads (length old) (length told)) × ((s ≡ framesSamples tables b payloads old (length told)) × (m ≡ framesNumbers tables b payloads (length old) told)))
 
-  pub frames-eleven : (length b ≡ 525 → ⊥) → AllTold 11 b old told
+  pub frames-eleven : (length b ≡ 526 → ⊥) → AllTold 11 b old told
   unfolding framesNumber framesImage framesSamples framesNumbers barred unmarked
-  frames-eleven h = rw (ne-eqb (length b) 525 h) (refl, (refl, (refl, refl)))
+  frames-eleven h = rw (ne-eqb (length b) 526 h) (refl, (refl, (refl, refl)))
 
-  module _ (h : length b ≡ 525) where
-    pub frames-one : (length tables ≡ 15834 → ⊥) → AllTold 1 (set b 524 0) old told
+  module _ (h : length b ≡ 526) where
+    pub frames-one : (length tables ≡ 15834 → ⊥) → AllTold 1 (lowered b) old told
     unfolding framesNumber framesImage framesSamples framesNumbers barred unmarked
-    frames-one t = rw (eq-eqb (length b) 525 h, ne-eqb (length tables) 15834 t) (refl, (refl, (refl, refl)))
+    frames-one t = rw (eq-eqb (length b) 526 h, ne-eqb (length tables) 15834 t) (refl, (refl, (refl, refl)))
 
     -- the call on states was given what the definitions give it
     module _ (t : length tables ≡ 15834) (ws : List ℤ) (ys : List ℕ) (s : State) (xs : List ℤ) (p : ws ≡ words tables) (q : ys ≡ take (length tables - 11926) (drop 11926 tables)) (r : s ≡ state b) (x : xs ≡ standing old) where
@@ -187,7 +187,7 @@ module _ (tables b payloads old told : List ℕ) where
 
       comes : framesNumber tables b payloads (length old) (length told) ≡ cause
       unfolding framesNumber barred
-      comes = rw (eq-eqb (length b) 525 h, eq-eqb (length tables) 15834 t)
+      comes = rw (eq-eqb (length b) 526 h, eq-eqb (length tables) 15834 t)
 
       module _ (a : Returned) (e : a ≡ Frames.decodeFrames ws ys s payloads (length xs) (length told)) (m : List ℕ) (f : m ≡ Frames.framesNumbers ws ys s payloads (length xs) told) where
         given : a ≡ Frames.decodeFrames (words tables) (bytes tables) (state b) payloads (samplesIn (length old)) (length told)
@@ -199,7 +199,7 @@ module _ (tables b payloads old told : List ℕ) where
         pub answered-cause : a .number ≡ cause
         answered-cause = ap (λ (y : Returned). y .number) given ∙ number-given (words tables) (bytes tables) (state b) payloads (samplesIn (length old)) (length told)
 
-        pub frames-declined : (a .number ≡ 0 → ⊥) → AllTold (a .number) (set b 524 0) old m
+        pub frames-declined : (a .number ≡ 0 → ⊥) → AllTold (a .number) (lowered b) old m
         unfolding framesImage framesSamples framesNumbers unmarked
         frames-declined z =
             let l = frames-small (words tables) (bytes tables) (state b) payloads (samplesIn (length old)) (length told) in

@@ -14,7 +14,7 @@ use Rattle.image.specs.Parts.{numbersAt, bytesOfAll}
 use Rattle.image.specs.Image.{SIZE, signed, unsigned, image, state}
 
 -- ---- the lent memory
--- how many bytes the tables are, and how many the samples of a frame; where an image has its mark
+-- how many bytes the tables are, and how many the samples of a frame; where an image has its mark, and how sure it is
 abbrev pub TABLES : ℕ
 TABLES = 15834
 
@@ -23,6 +23,13 @@ ROOM = 640
 
 abbrev pub MARK : ℕ
 MARK = 524
+
+abbrev pub SURE : ℕ
+SURE = 525
+
+-- an image with 0 in both
+abbrev pub lowered : List ℕ → List ℕ
+lowered b = set (set b MARK 0) SURE 0
 
 -- the tables' words, two bytes each, the low one first, and the bytes behind them
 unfoldable pub words : List ℕ → List ℤ
@@ -43,9 +50,9 @@ zeros n = replicate n 0
 unfoldable pub barred : List ℕ → List ℕ → ℕ → ℕ
 barred tables b n = cond (not (eqb (length b) SIZE)) 11 (cond (not (eqb (length tables) TABLES)) 1 n)
 
--- what a refused call that takes a state leaves of its image: with 11 all of it, else all but the mark, which becomes 0
+-- what a refused call that takes a state leaves of its image: with 11 all of it, else all but the last two bytes, which become 0
 unfoldable pub unmarked : ℕ → List ℕ → List ℕ
-unmarked n b = cond (eqb n 11) b (set b MARK 0)
+unmarked n b = cond (eqb n 11) b (lowered b)
 
 -- ---- reset and cold start: the image is the state's that a call starts from; with 11 it stays, and with any other number it becomes all zero
 unfoldable pub begun : ℕ → State → List ℕ → List ℕ

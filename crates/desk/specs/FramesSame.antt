@@ -8,19 +8,19 @@ use native.Mathlib.Omega.{arith}
 use borrow.Author.Tests.{eq-eqb, ne-eqb, eqb-true, eqb-false, leb-true}
 use lib.Dec.{eqb, leb}
 use lib.IntN.{ℤ}
-use lib.ListN.{length, set, length-map, length-drop}
+use lib.ListN.{length, length-map, length-drop}
 use Rattle.sequence.specs.First.{some}
 use Rattle.tables.specs.Places.{WORDS, BYTES}
 use Rattle.tables.specs.Tables.{broken}
 use Rattle.celp.specs.declared.State.{State}
-use Rattle.celp.specs.State.{marked, obeys}
+use Rattle.celp.specs.State.{fallen, obeys}
 use Rattle.celp.specs.Checks.{checked, checked-passed}
 use Rattle.celp.specs.Frames as Frames
 use Rattle.image.specs.Bytes.{Bytes}
 use Rattle.image.specs.Parts.{part, numbersAt, bytesOfAll, join, cut, size, join-cut, length-numbers, numbers-below}
 use Rattle.image.specs.Image.{SIZE, signed, image, state}
 use Rattle.image.specs.Signs.{numbers-back}
-use Rattle.desk.specs.Desk.{TABLES, MARK, words, bytes, sampleBytes, zeros, barred, unmarked, samplesIn, standing, framesNumber, framesImage, framesSamples, framesNumbers}
+use Rattle.desk.specs.Desk.{TABLES, lowered, words, bytes, sampleBytes, zeros, barred, unmarked, samplesIn, standing, framesNumber, framesImage, framesSamples, framesNumbers}
 use Rattle.desk.specs.Images.{below, words-long, short-set}
 
 -- ---- the room
@@ -102,7 +102,7 @@ module _ (tables b payloads : List ℕ) (room answers : ℕ) (l : length b ≡ S
 
   pub frames-number-same : framesNumber tables b payloads room answers ≡ on
   unfolding framesNumber barred
-  frames-number-same = rw (eq-eqb (length b) 525 l) (by (eqb (length tables) 15834) (eqb-false (length tables) 15834))
+  frames-number-same = rw (eq-eqb (length b) 526 l) (by (eqb (length tables) 15834) (eqb-false (length tables) 15834))
     where
       by : (t : Bool) → (t ≡ false → length tables ≡ 15834 → ⊥) → cond (not t) 1 on ≡ on
       by true n = refl
@@ -123,18 +123,18 @@ module _ (tables b payloads : List ℕ) (room answers : ℕ) (l : length b ≡ S
   unfolding framesImage
   frames-taken z = rw z
 
-  pub frames-refused : (framesNumber tables b payloads room answers ≡ 0 → ⊥) → framesImage tables b payloads room answers ≡ set b MARK 0
+  pub frames-refused : (framesNumber tables b payloads room answers ≡ 0 → ⊥) → framesImage tables b payloads room answers ≡ lowered b
   unfolding framesImage unmarked
   frames-refused z =
       let s = frames-small (words tables) (bytes tables) (state b) payloads (samplesIn room) answers in
       let e = frames-number-same in
       rw (ne-eqb (framesNumber tables b payloads room answers) 0 z, ne-eqb (framesNumber tables b payloads room answers) 11 (λ q. omega arith))
 
-  pub frames-marked : (framesNumber tables b payloads room answers ≡ 0 → ⊥) → Frames.decodeFrames (words tables) (bytes tables) (state b) payloads (samplesIn room) answers .state ≡ marked (state b) 0
+  pub frames-fallen : (framesNumber tables b payloads room answers ≡ 0 → ⊥) → Frames.decodeFrames (words tables) (bytes tables) (state b) payloads (samplesIn room) answers .state ≡ fallen (state b)
   unfolding Frames.decodeFrames Frames.returned
-  frames-marked z = by on (λ e. z (frames-number-same ∙ e))
+  frames-fallen z = by on (λ e. z (frames-number-same ∙ e))
     where
-      by : (n : ℕ) → (n ≡ 0 → ⊥) → Frames.returned (words tables) (bytes tables) n (state b) payloads .state ≡ marked (state b) 0
+      by : (n : ℕ) → (n ≡ 0 → ⊥) → Frames.returned (words tables) (bytes tables) n (state b) payloads .state ≡ fallen (state b)
       by zero h = absurd (h refl)
       by (suc n) h = refl
 
@@ -159,6 +159,6 @@ frames-samples-same tables b payloads old answers l h m =
     by (suc n) = rw (ne-eqb (suc n) 0 (λ e. omega arith)) (sym (standing-back old h m))
 
 -- a payload of 19 bytes with a room of 639 is 3; a right one with room for a byte too many, or for two numbers, is 2
-sizes-first : (tables : List ℕ) → length tables ≡ 15834 → (framesNumber tables (zeros 525) (zeros 19) 639 1 ≡ 3) × (framesNumber tables (zeros 525) (zeros 20) 641 1 ≡ 2) × (framesNumber tables (zeros 525) (zeros 20) 640 2 ≡ 2)
+sizes-first : (tables : List ℕ) → length tables ≡ 15834 → (framesNumber tables (zeros 526) (zeros 19) 639 1 ≡ 3) × (framesNumber tables (zeros 526) (zeros 20) 641 1 ≡ 2) × (framesNumber tables (zeros 526) (zeros 20) 640 2 ≡ 2)
 unfolding Frames.framesSizes samplesIn
-sizes-first tables t = (frames-sizes tables (zeros 525) (zeros 19) 639 1 refl t (λ e. omega arith), frames-sizes tables (zeros 525) (zeros 20) 641 1 refl t (λ e. omega arith), frames-sizes tables (zeros 525) (zeros 20) 640 2 refl t (λ e. omega arith))
+sizes-first tables t = (frames-sizes tables (zeros 526) (zeros 19) 639 1 refl t (λ e. omega arith), frames-sizes tables (zeros 526) (zeros 20) 641 1 refl t (λ e. omega arith), frames-sizes tables (zeros 526) (zeros 20) 640 2 refl t (λ e. omega arith))

@@ -1,4 +1,4 @@
--- Decoding images is decoding states: of an image of 525 bytes each call answers the number of the call on its state, writes that call's samples, and leaves an
+-- Decoding images is decoding states: of an image of 526 bytes each call answers the number of the call on its state, writes that call's samples, and leaves an
 -- image of the state that it gives. Of tables of any length: another length than 15,834 makes a set that is refused with 1.
 use Prim.Native.Nat.{ℕ, zero, suc, _+_, _*_, _<_, _≤_}
 use mathlib.Core.Path.{_≡_, refl, sym, _∙_}
@@ -10,7 +10,7 @@ use borrow.Author.Tests.{eq-eqb, ne-eqb, eqb-true, eqb-false}
 use lib.Bits.{bitAnd}
 use lib.Dec.{eqb}
 use lib.IntN.{ℤ, pos}
-use lib.ListN.{length, getD, set, replicate, length-map, length-drop}
+use lib.ListN.{length, getD, set, replicate, length-map, length-drop, length-set}
 use lib.Seq.{getD-set-same, getD-set-other}
 use Rattle.sequence.specs.First.{some}
 use Rattle.sequence.specs.Table.{table, table-same}
@@ -19,7 +19,7 @@ use Rattle.tables.specs.Tables.{broken, check}
 use Rattle.bits.specs.Bits.{fieldsOf}
 use Rattle.frame.specs.Frame as Frame
 use Rattle.celp.specs.declared.State.{State}
-use Rattle.celp.specs.State.{marked, obeys, initial, startedBy, started, reset, coldStart, missedFrame}
+use Rattle.celp.specs.State.{fallen, obeys, initial, startedBy, started, reset, coldStart, missedFrame}
 use Rattle.celp.specs.Celp as Celp
 use Rattle.celp.specs.Cases.{refused-state}
 use Rattle.celp.specs.Accepted.{accepted-means}
@@ -27,7 +27,7 @@ use Rattle.image.specs.Bytes.{numberAt}
 use Rattle.image.specs.Parts.{numbersAt, cut, length-all, length-numbers}
 use Rattle.image.specs.Image.{SIZE, layout, signed, unsigned, ofNumbers, image, state}
 use Rattle.image.specs.Cases.{zero-image}
-use Rattle.desk.specs.Desk.{TABLES, ROOM, MARK, words, bytes, sampleBytes, zeros, barred, unmarked, begun, resetNumber, resetImage, coldNumber, coldImage, decodeNumber, decodeImage, decodeSamples, missedNumber, missedImage}
+use Rattle.desk.specs.Desk.{TABLES, ROOM, MARK, SURE, lowered, words, bytes, sampleBytes, zeros, barred, unmarked, begun, resetNumber, resetImage, coldNumber, coldImage, decodeNumber, decodeImage, decodeSamples, missedNumber, missedImage}
 
 -- ---- the numbers of the calls on states are below 8, so none is 11
 pub below : (b : Bool) (n x : ℕ) → n < 8 → x < 8 → cond b n x < 8
@@ -94,7 +94,7 @@ module _ (tables b : List ℕ) (m : ℕ) where
 
   barred-started : length b ≡ SIZE → barred tables b (started (words tables) (bytes tables) m .number) ≡ started (words tables) (bytes tables) m .number
   unfolding barred
-  barred-started l = rw (eq-eqb (length b) 525 l) (by (eqb (length tables) 15834) (eqb-false (length tables) 15834))
+  barred-started l = rw (eq-eqb (length b) 526 l) (by (eqb (length tables) 15834) (eqb-false (length tables) 15834))
     where
       by : (t : Bool) → (t ≡ false → length tables ≡ 15834 → ⊥) → cond (not t) 1 (started (words tables) (bytes tables) m .number) ≡ started (words tables) (bytes tables) m .number
       by true h = refl
@@ -132,7 +132,7 @@ module _ (tables b payload : List ℕ) (room : ℕ) (l : length b ≡ SIZE) wher
 
   pub number-same : decodeNumber tables b payload room ≡ on (state b) (samplesOf room)
   unfolding decodeNumber barred samplesOf
-  number-same = rw (eq-eqb (length b) 525 l) (by (eqb (length tables) 15834) (eqb room 640) (eqb-true (length tables) 15834) (eqb-false (length tables) 15834))
+  number-same = rw (eq-eqb (length b) 526 l) (by (eqb (length tables) 15834) (eqb room 640) (eqb-true (length tables) 15834) (eqb-false (length tables) 15834))
     where
       by : (t r : Bool) → (t ≡ true → length tables ≡ 15834) → (t ≡ false → length tables ≡ 15834 → ⊥) → cond (not t) 1 (cond (not r) 2 (on (state b) 320)) ≡ on (state b) (cond r 320 0)
       by false r y n = sym (short-refused (cond r 320 0) (n refl))
@@ -146,15 +146,15 @@ module _ (tables b payload : List ℕ) (room : ℕ) (l : length b ≡ SIZE) wher
       let a = accepted-means (words tables) (bytes tables) (state b) payload (samplesOf room) (sym number-same ∙ z) in
       rw (z, a .samples-long)
 
-  pub image-refused : (decodeNumber tables b payload room ≡ 0 → ⊥) → decodeImage tables b payload room ≡ set b MARK 0
+  pub image-refused : (decodeNumber tables b payload room ≡ 0 → ⊥) → decodeImage tables b payload room ≡ lowered b
   unfolding decodeImage unmarked
   image-refused z =
       let s = refusal-small (words tables) (bytes tables) (state b) payload (samplesOf room) in
       let e = number-same in
       rw (ne-eqb (decodeNumber tables b payload room) 0 z, ne-eqb (decodeNumber tables b payload room) 11 (λ q. omega arith))
 
-  pub left-marked : (decodeNumber tables b payload room ≡ 0 → ⊥) → Celp.decode (words tables) (bytes tables) (state b) payload (samplesOf room) .state ≡ marked (state b) 0
-  left-marked z = refused-state (words tables) (bytes tables) (state b) payload (samplesOf room) (λ e. z (number-same ∙ e))
+  pub left-fallen : (decodeNumber tables b payload room ≡ 0 → ⊥) → Celp.decode (words tables) (bytes tables) (state b) payload (samplesOf room) .state ≡ fallen (state b)
+  left-fallen z = refused-state (words tables) (bytes tables) (state b) payload (samplesOf room) (λ e. z (number-same ∙ e))
 
 -- the room after it has the bytes of what the call on states leaves in a buffer whose bytes it had
 module _ (tables b payload : List ℕ) (xs : List ℤ) (l : length b ≡ SIZE) (n : length xs ≡ 320) where
@@ -179,20 +179,20 @@ module _ (tables b payload : List ℕ) (xs : List ℤ) (l : length b ≡ SIZE) (
 module _ (b : List ℕ) (l : length b ≡ SIZE) where
   pub missed-same : missedNumber b ≡ missedFrame (state b) .number
   unfolding missedNumber
-  missed-same = rw (eq-eqb (length b) 525 l)
+  missed-same = rw (eq-eqb (length b) 526 l)
 
-  pub missed-image : missedImage b ≡ set b MARK 0
+  pub missed-image : missedImage b ≡ lowered b
   unfolding missedImage unmarked
   missed-image =
       let s = missed-small (state b) in
       let e = missed-same in
       rw (ne-eqb (missedNumber b) 11 (λ q. omega arith))
 
--- ---- the mark byte alone
-number-before : (w : ℕ) (b : List ℕ) (at : ℕ) → at + w ≤ MARK → numberAt w (set b MARK 0) at ≡ numberAt w b at
+-- ---- the last two bytes alone
+number-before : (w : ℕ) (b : List ℕ) (at : ℕ) → at + w ≤ MARK → numberAt w (lowered b) at ≡ numberAt w b at
 unfolding numberAt
 number-before zero b at h = refl
-number-before (suc w) b at h = rw (getD-set-other b MARK at 0 0 (λ e. omega arith), number-before w b (at + 1) (omega arith))
+number-before (suc w) b at h = rw (getD-set-other (set b MARK 0) SURE at 0 0 (λ e. omega arith), getD-set-other b MARK at 0 0 (λ e. omega arith), number-before w b (at + 1) (omega arith))
 
 reach : (w n k at : ℕ) → k < n → at + w * n ≤ MARK → at + w * k + w ≤ MARK
 reach w n k at p h =
@@ -200,18 +200,22 @@ reach w n k at p h =
     let f = mul-suc w k in
     omega arith
 
-numbers-before : (w n : ℕ) (b : List ℕ) (at : ℕ) → at + w * n ≤ MARK → numbersAt w n (set b MARK 0) at ≡ numbersAt w n b at
+numbers-before : (w n : ℕ) (b : List ℕ) (at : ℕ) → at + w * n ≤ MARK → numbersAt w n (lowered b) at ≡ numbersAt w n b at
 unfolding numbersAt
-numbers-before w n b at h = table-same (λ k. numberAt w (set b MARK 0) (at + w * k)) (λ k. numberAt w b (at + w * k)) n (λ k p. number-before w b (at + w * k) (reach w n k at p h))
+numbers-before w n b at h = table-same (λ k. numberAt w (lowered b) (at + w * k)) (λ k. numberAt w b (at + w * k)) n (λ k p. number-before w b (at + w * k) (reach w n k at p h))
 
-mark-there : (b : List ℕ) → length b ≡ SIZE → getD (numbersAt 1 1 (set b MARK 0) MARK) 0 0 ≡ 0
+mark-there : (b : List ℕ) → length b ≡ SIZE → getD (numbersAt 1 1 (lowered b) MARK) 0 0 ≡ 0
 unfolding numbersAt table numberAt
-mark-there b l = rw (getD-set-same b MARK 0 0 (omega arith))
+mark-there b l = rw (getD-set-other (set b MARK 0) SURE MARK 0 0 (λ e. omega arith), getD-set-same b MARK 0 0 (omega arith))
 
--- its state is the same with mark 0
-pub state-unmarked : (b : List ℕ) → length b ≡ SIZE → state (set b MARK 0) ≡ marked (state b) 0
+sure-there : (b : List ℕ) → length b ≡ SIZE → getD (numbersAt 1 1 (lowered b) SURE) 0 0 ≡ 0
+unfolding numbersAt table numberAt
+sure-there b l = rw (getD-set-same (set b MARK 0) SURE 0 0 (omega (arith, length-set b MARK 0)))
+
+-- its state is the same with 0 and 0
+pub state-lowered : (b : List ℕ) → length b ≡ SIZE → state (lowered b) ≡ fallen (state b)
 unfolding state ofNumbers cut layout
-state-unmarked b l =
+state-lowered b l =
     rw (
       numbers-before 2 10 b 0 (omega arith),
       numbers-before 2 154 b 20 (omega arith),
@@ -223,4 +227,5 @@ state-unmarked b l =
       numbers-before 4 30 b 388 (omega arith),
       numbers-before 4 4 b 508 (omega arith),
       mark-there b l,
+      sure-there b l,
     )

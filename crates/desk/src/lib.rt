@@ -16,8 +16,10 @@ const BYTES: usize = 11926;
 
 const ROOM: usize = 640;
 
-// The place of an image's mark.
-const MARK: usize = image::SIZE - 1;
+// The place of an image's mark, and of how sure it is.
+const MARK: usize = image::SIZE - 2;
+
+const SURE: usize = image::SIZE - 1;
 
 // An image of another length.
 const NO_IMAGE: u8 = 11;
@@ -33,7 +35,7 @@ fn clear(image: &mut [u8])
     }
 }
 
-// The state that a call starts from, with mark 2.
+// The state that a call starts from, with mark 2, and sure.
 #[no_mangle]
 pub extern "C" fn drolkhise_reset(tables: &[u8], image: &mut [u8]) -> u8
     ensures number { λ r. ⌜ r ≡ Desk.resetNumber (now (tables .entry)) (now (image .entry)) ⌝ }
@@ -54,7 +56,7 @@ pub extern "C" fn drolkhise_reset(tables: &[u8], image: &mut [u8]) -> u8
     r.number
 }
 
-// The same state, with mark 0.
+// The same state, with 0 and 0.
 #[no_mangle]
 pub extern "C" fn drolkhise_cold_start(tables: &[u8], image: &mut [u8]) -> u8
     ensures number { λ r. ⌜ r ≡ Desk.coldNumber (now (tables .entry)) (now (image .entry)) ⌝ }
@@ -75,7 +77,7 @@ pub extern "C" fn drolkhise_cold_start(tables: &[u8], image: &mut [u8]) -> u8
     r.number
 }
 
-// A frame: its samples and the next state's image, or where it is refused the mark alone, which becomes 0.
+// A frame: its samples and the next state's image, or where it is refused the last two bytes alone, which become 0.
 #[no_mangle]
 pub extern "C" fn drolkhise_decode(
     tables: &[u8],
@@ -92,10 +94,12 @@ pub extern "C" fn drolkhise_decode(
     }
     if tables.len() != TABLES {
         image[MARK] = 0;
+        image[SURE] = 0;
         return 1;
     }
     if samples.len() != ROOM {
         image[MARK] = 0;
+        image[SURE] = 0;
         return 2;
     }
     let mut words = [0i16; 5963];
@@ -105,6 +109,7 @@ pub extern "C" fn drolkhise_decode(
     let a = celp::decode(&words, &tables[BYTES..], state, payload, &mut pcm);
     if a.number != 0 {
         image[MARK] = 0; // whatever it came with
+        image[SURE] = 0;
         return a.number;
     }
     let next = a.state;
@@ -136,7 +141,7 @@ fn frames(
     numbers: &mut [u8],
     pcm: &mut [i16],
 ) -> u8
-    requires { ⌜ length (now image) ≡ 525 ⌝ ∗ ⌜ length (now tables) ≡ 15834 ⌝ ∗ ⌜ length (now pcm) ≡ Desk.samplesIn (length (now samples)) ⌝ }
+    requires { ⌜ length (now image) ≡ 526 ⌝ ∗ ⌜ length (now tables) ≡ 15834 ⌝ ∗ ⌜ length (now pcm) ≡ Desk.samplesIn (length (now samples)) ⌝ }
     ensures number { λ r. ⌜ r ≡ Desk.framesNumber (now (tables .entry)) (now (image .entry)) (now (payloads .entry)) (length (now (samples .entry))) (length (now (numbers .entry))) ⌝ }
     ensures image { λ _. ⌜ now (image .exit) ≡ Desk.framesImage (now (tables .entry)) (now (image .entry)) (now (payloads .entry)) (length (now (samples .entry))) (length (now (numbers .entry))) ⌝ }
     ensures samples { λ _. ⌜ now (samples .exit) ≡ Desk.framesSamples (now (tables .entry)) (now (image .entry)) (now (payloads .entry)) (now (samples .entry)) (length (now (numbers .entry))) ⌝ }
@@ -149,6 +154,7 @@ fn frames(
     let r = celp::decode_frames(&words, &tables[BYTES..], state, payloads, pcm, numbers);
     if r.number != 0 {
         image[MARK] = 0;
+        image[SURE] = 0;
         return r.number;
     }
     let next = r.state;
@@ -176,6 +182,7 @@ pub extern "C" fn drolkhise_decode_frames(
     }
     if tables.len() != TABLES {
         image[MARK] = 0;
+        image[SURE] = 0;
         return 1;
     }
     let n = samples_in(samples.len());
@@ -183,7 +190,7 @@ pub extern "C" fn drolkhise_decode_frames(
     frames(tables, image, payloads, samples, numbers, &mut pcm[..n])
 }
 
-// A frame that was lost: the mark becomes 0.
+// A frame that was lost: the mark becomes 0, and with it how sure it is.
 #[no_mangle]
 pub extern "C" fn drolkhise_missed_frame(image: &mut [u8]) -> u8
     ensures number { λ r. ⌜ r ≡ Desk.missedNumber (now (image .entry)) ⌝ }
@@ -195,6 +202,7 @@ pub extern "C" fn drolkhise_missed_frame(image: &mut [u8]) -> u8
     let state = image::read(image);
     let r = celp::missed_frame(state);
     image[MARK] = 0;
+    image[SURE] = 0;
     r.number
 }
 

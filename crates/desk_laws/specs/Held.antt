@@ -39,8 +39,9 @@ use Rattle.core.specs.Figures.{pushed, left-gains}
 use Rattle.core.specs.Kept.{fixed-kept, lag-kept}
 use Rattle.full.specs.Room.{length-excited}
 use Rattle.frame.specs.Frame as Frame
+use Rattle.sure.specs.Sure.{after, left-le}
 use Rattle.celp.specs.declared.State.{State}
-use Rattle.celp.specs.State.{allZero, marked, lspMean, initial}
+use Rattle.celp.specs.State.{allZero, fallen, lspMean, initial}
 use Rattle.celp.specs.Celp.{refusal, raised, carried, decoded, next, accepted, answer, decode}
 use Rattle.celp.specs.Cases.{refused-state}
 use Rattle.image.specs.Image.{Whole, Single, Held}
@@ -282,8 +283,8 @@ module _ (words : List ℤ) (bytes : List ℕ) (s : State) (h : Held s) where
         gains-held = h .gains-held;
       }
 
-  pub marked-held : (m : ℕ) → m < 256 → Held (marked s m)
-  marked-held m l =
+  pub fallen-held : Held (fallen s)
+  fallen-held =
       record {
         lsp-held = h .lsp-held;
         excitation-held = h .excitation-held;
@@ -294,13 +295,14 @@ module _ (words : List ℤ) (bytes : List ℕ) (s : State) (h : Held s) where
         iir-held = h .iir-held;
         residuals-held = h .residuals-held;
         gains-held = h .gains-held;
-        mark-held = l;
+        mark-held = omega arith;
+        sure-held = omega arith;
       }
 
   -- what an accepted frame leaves
-  pub next-held : (payload : List ℕ) (m : ℕ) → m < 256 → Held (next (decoded words bytes s payload) m)
+  pub next-held : (payload : List ℕ) (m u : ℕ) → m < 256 → u < 256 → Held (next (decoded words bytes s payload) m u)
   unfolding next decoded Frame.decode Frame.report Frame.halves Frame.half
-  next-held payload m l =
+  next-held payload m u l k =
       let i = within-names (fieldsOf payload) (fields-within payload) in
       let f = fieldsOf payload in
       let a = half-held words bytes (carried s) _ (f .first) (i .0) carried-held (lsp-predicted words bytes (s .residuals) _ _) in
@@ -317,9 +319,13 @@ module _ (words : List ℤ) (bytes : List ℕ) (s : State) (h : Held s) where
         residuals-held = push-held words bytes _ (f .second) r;
         gains-held = b .gains-held;
         mark-held = l;
+        sure-held = k;
       }
 
-  accepted-state : (payload : List ℕ) (room : ℕ) → refusal words bytes s payload room ≡ 0 → next (decoded words bytes s payload) (raised (s .mark)) ≡ decode words bytes s payload room .state
+  abbrev sureLeft : List ℕ → ℕ
+  sureLeft payload = after (s .mark) (s .sure) (decoded words bytes s payload .«pitch_gains») .left
+
+  accepted-state : (payload : List ℕ) (room : ℕ) → refusal words bytes s payload room ≡ 0 → next (decoded words bytes s payload) (raised (s .mark)) (sureLeft payload) ≡ decode words bytes s payload room .state
   unfolding decode answer accepted
   accepted-state payload room e = rw e
 
@@ -332,8 +338,8 @@ module _ (words : List ℤ) (bytes : List ℕ) (s : State) (h : Held s) where
   decode-held payload room = by (refusal words bytes s payload room) refl
     where
       by : (n : ℕ) → refusal words bytes s payload room ≡ n → Held (decode words bytes s payload room .state)
-      by zero e = subst Held (accepted-state payload room e) (next-held payload (raised (s .mark)) raised-small)
-      by (suc n) e = subst Held (sym (refused-state words bytes s payload room (λ z. omega arith))) (marked-held 0 (omega arith))
+      by zero e = subst Held (accepted-state payload room e) (next-held payload (raised (s .mark)) (sureLeft payload) raised-small (let l = left-le (s .mark) (s .sure) (decoded words bytes s payload .«pitch_gains») in omega arith))
+      by (suc n) e = subst Held (sym (refused-state words bytes s payload room (λ z. omega arith))) fallen-held
 
 -- ---- where a decoder starts, and the all-zero state
 zero-fits : (n k : ℕ) → k < n → T (fits binary32 (getD (replicate n (ofBits binary32 0)) k nan))
@@ -353,6 +359,7 @@ zero-held =
       residuals-held = (refl, zero-fits 30);
       gains-held = (refl, zero-fits 4);
       mark-held = omega arith;
+      sure-held = omega arith;
     }
 
 mean-fits : (bytes : List ℕ) → T (fits binary32 (Gain.mean bytes))
@@ -373,4 +380,5 @@ initial-held words bytes w m l =
       residuals-held = (length-table (Spectral.initialAt words) 30, λ k h. subst (λ (x : Float). T (fits binary32 x)) (sym (getD-table (Spectral.initialAt words) 30 k nan h)) (ofInt-fits binary32 (word words (LSF-MEAN + k % 10))));
       gains-held = four (Gain.mean bytes) (Gain.mean bytes) (Gain.mean bytes) (Gain.mean bytes) (mean-fits bytes) (mean-fits bytes) (mean-fits bytes) (mean-fits bytes);
       mark-held = l;
+      sure-held = l;
     }

@@ -20,7 +20,7 @@ use Rattle.tables.specs.Places.{WORDS, BYTES}
 use Rattle.tables.specs.Tables.{broken, check}
 use Rattle.spectral.specs.Kept.{Words16}
 use Rattle.celp.specs.declared.State.{State}
-use Rattle.celp.specs.State.{marked, obeys, startedBy, started, reset, coldStart, missedFrame}
+use Rattle.celp.specs.State.{fallen, obeys, startedBy, started, reset, coldStart, missedFrame}
 use Rattle.celp.specs.Celp as Celp
 use Rattle.celp.specs.Accepted.{accepted-means}
 use Rattle.celp.specs.StateRule.{floats-within}
@@ -30,10 +30,10 @@ use Rattle.image.specs.Parts.{Part, part, bytesOfAll, numbersAt, join, cut, len
 use Rattle.image.specs.Image.{SIZE, layout, signed, numbers, ofNumbers, image, state, Held, NoNans}
 use Rattle.image.specs.Signs.{getD-mapped, whole-of}
 use Rattle.image.specs.RoundTrips.{length-image, image-bytes, state-back, state-held, image-back}
-use Rattle.desk.specs.Desk.{MARK, words, bytes, resetImage, coldImage, decodeNumber, decodeImage, missedNumber, missedImage}
+use Rattle.desk.specs.Desk.{MARK, SURE, lowered, words, bytes, resetImage, coldImage, decodeNumber, decodeImage, missedNumber, missedImage}
 use Rattle.desk_laws.specs.Small.{whole-small}
 use Rattle.desk_laws.specs.Held.{decode-held, zero-held, initial-held}
-use Rattle.desk.specs.Images.{samplesOf, number-same, image-taken, image-refused, left-marked, missed-same, missed-image, state-unmarked, reset-same, cold-same}
+use Rattle.desk.specs.Images.{samplesOf, number-same, image-taken, image-refused, left-fallen, missed-same, missed-image, state-lowered, reset-same, cold-same}
 
 -- ---- images that a program can lend, and those that are the image of their state: all but those with a NaN's pattern
 pub record Lent (b : List ℕ) : Type 0 where
@@ -49,7 +49,7 @@ exact b h q = image-back b (h .bytes-each) q (h .long)
 lent-image : (s : State) → Held s → Lent (image s)
 lent-image s h = record { bytes-each = image-bytes s; long = length-image s h }
 
--- ---- the mark is an image's last byte
+-- ---- the mark, and how sure it is, are an image's last bytes
 join-last : (ps : List Part) (ns : List (List ℕ)) (p : Part) (n : List ℕ) → length ps ≡ length ns → join (ps ++ (p ∷ [])) (ns ++ (n ∷ [])) ≡ join ps ns ++ bytesOfAll (p .width) n
 unfolding join
 join-last [] [] p n e = append-nil (bytesOfAll (p .width) n)
@@ -57,34 +57,44 @@ join-last [] (m ∷ ns) p n e = absurd (omega arith)
 join-last (q ∷ ps) [] p n e = absurd (omega arith)
 join-last (q ∷ ps) (m ∷ ns) p n e = ap (λ (l : List ℕ). bytesOfAll (q .width) m ++ l) (join-last ps ns p n (omega arith)) ∙ sym (append-assoc (bytesOfAll (q .width) m) (join ps ns) (bytesOfAll (p .width) n))
 
--- a state's numbers but the mark
+-- a state's numbers but those
 abbrev nine : State → List (List ℕ)
 nine s = take 9 (numbers s)
 
 abbrev front : State → List ℕ
 front s = join (take 9 layout) (nine s)
 
-image-splits : (s : State) → image s ≡ front s ++ (s .mark % 256 ∷ [])
+image-splits : (s : State) → image s ≡ front s ++ (s .mark % 256 ∷ s .sure % 256 ∷ [])
 unfolding image layout numbers bytesOfAll bytesOf
-image-splits s = join-last (take 9 layout) (nine s) (part 1 1) (s .mark ∷ []) refl
+image-splits s =
+    join-last (take 10 layout) (take 10 (numbers s)) (part 1 1) (s .sure ∷ []) refl
+    ∙ ap (λ (l : List ℕ). l ++ (s .sure % 256 ∷ [])) (join-last (take 9 layout) (nine s) (part 1 1) (s .mark ∷ []) refl)
+    ∙ append-assoc (front s) (s .mark % 256 ∷ []) (s .sure % 256 ∷ [])
 
-front-same : (s : State) → front (marked s 0) ≡ front s
+front-same : (s : State) → front (fallen s) ≡ front s
 unfolding numbers
 front-same s = refl
 
-pub unmark-image : (s : State) → Held s → image (marked s 0) ≡ set (image s) MARK 0
-unmark-image s h =
-    let e = image-splits s in
-    let l : length (front s ++ (s .mark % 256 ∷ [])) ≡ 525 = ap length (sym e) ∙ length-image s h in
-    let k = length-append (front s) (s .mark % 256 ∷ []) in
-    image-splits (marked s 0)
-    ∙ ap (λ (x : List ℕ). x ++ (0 ∷ [])) (front-same s)
-    ∙ sym (set-at (front s) (s .mark % 256) [] 0 MARK (omega arith))
-    ∙ ap (λ (x : List ℕ). set x MARK 0) (sym e)
+lower-two : (f : List ℕ) (m u : ℕ) → length f ≡ MARK → lowered (f ++ (m ∷ u ∷ [])) ≡ f ++ (0 ∷ 0 ∷ [])
+lower-two f m u l =
+    let k = length-append f (0 ∷ []) in
+    ap (λ (x : List ℕ). set x SURE 0) (set-at f m (u ∷ []) 0 MARK l ∙ sym (append-assoc f (0 ∷ []) (u ∷ [])))
+    ∙ set-at (f ++ (0 ∷ [])) u [] 0 SURE (omega arith)
+    ∙ append-assoc f (0 ∷ []) (0 ∷ [])
 
--- ---- an image with mark 0
-pub lent-unmarked : (b : List ℕ) → Lent b → Lent (set b MARK 0)
-lent-unmarked b h = record { bytes-each = each b MARK (h .bytes-each); long = length-set b MARK 0 ∙ h .long }
+pub lower-image : (s : State) → Held s → image (fallen s) ≡ lowered (image s)
+lower-image s h =
+    let e = image-splits s in
+    let l : length (front s ++ (s .mark % 256 ∷ s .sure % 256 ∷ [])) ≡ 526 = ap length (sym e) ∙ length-image s h in
+    let k = length-append (front s) (s .mark % 256 ∷ s .sure % 256 ∷ []) in
+    image-splits (fallen s)
+    ∙ ap (λ (x : List ℕ). x ++ (0 ∷ 0 ∷ [])) (front-same s)
+    ∙ sym (lower-two (front s) (s .mark % 256) (s .sure % 256) (omega arith))
+    ∙ ap lowered (sym e)
+
+-- ---- an image with 0 in both
+pub lent-lowered : (b : List ℕ) → Lent b → Lent (lowered b)
+lent-lowered b h = record { bytes-each = each (set b MARK 0) SURE (each b MARK (h .bytes-each)); long = length-set (set b MARK 0) SURE 0 ∙ length-set b MARK 0 ∙ h .long }
   where
     each : (l : List ℕ) (i : ℕ) → Bytes l → Bytes (set l i 0)
     each [] i p k = p k
@@ -93,8 +103,8 @@ lent-unmarked b h = record { bytes-each = each b MARK (h .bytes-each); long = le
     each (x ∷ l) (suc i) p zero = p 0
     each (x ∷ l) (suc i) p (suc k) = each l i (λ j. p (suc j)) k
 
-exact-unmarked : (b : List ℕ) → Lent b → Exact b → set b MARK 0 ≡ image (marked (state b) 0)
-exact-unmarked b h x = ap (λ (l : List ℕ). set l MARK 0) (sym x) ∙ sym (unmark-image (state b) (state-held b (h .bytes-each)))
+exact-lowered : (b : List ℕ) → Lent b → Exact b → lowered b ≡ image (fallen (state b))
+exact-lowered b h x = ap lowered (sym x) ∙ sym (lower-image (state b) (state-held b (h .bytes-each)))
 
 -- ---- one call
 -- what a frame leaves: in every case an image whose state is the one that the call on states gives; and, of an exact image, that state's image
@@ -104,12 +114,12 @@ pub record Leaves (b : List ℕ) (left : List ℕ) (s : State) : Type 0 where
   pub image-left : Exact b → left ≡ image s
 
 module _ (tables b : List ℕ) (h : Lent b) where
-  leaves-unmarked : (left : List ℕ) (s : State) → left ≡ set b MARK 0 → s ≡ marked (state b) 0 → Leaves b left s
-  leaves-unmarked left s e f =
+  leaves-lowered : (left : List ℕ) (s : State) → left ≡ lowered b → s ≡ fallen (state b) → Leaves b left s
+  leaves-lowered left s e f =
       record {
-        lent = subst Lent (sym e) (lent-unmarked b h);
-        state-left = ap state e ∙ state-unmarked b (h .long) ∙ sym f;
-        image-left = λ x. e ∙ exact-unmarked b h x ∙ ap image (sym f);
+        lent = subst Lent (sym e) (lent-lowered b h);
+        state-left = ap state e ∙ state-lowered b (h .long) ∙ sym f;
+        image-left = λ x. e ∙ exact-lowered b h x ∙ ap image (sym f);
       }
 
   leaves-image : (left : List ℕ) (s : State) → Held s → left ≡ image s → Leaves b left s
@@ -125,11 +135,11 @@ module _ (tables b : List ℕ) (h : Lent b) where
     where
       by : (n : ℕ) → decodeNumber tables b payload room ≡ n → Leaves b (decodeImage tables b payload room) (Celp.decode (words tables) (bytes tables) (state b) payload (samplesOf room) .state)
       by zero e = leaves-image _ _ (decode-held (words tables) (bytes tables) (state b) (state-held b (h .bytes-each)) payload (samplesOf room)) (image-taken tables b payload room (h .long) e)
-      by (suc n) e = leaves-unmarked _ _ (image-refused tables b payload room (h .long) (λ z. omega arith)) (left-marked tables b payload room (h .long) (λ z. omega arith))
+      by (suc n) e = leaves-lowered _ _ (image-refused tables b payload room (h .long) (λ z. omega arith)) (left-fallen tables b payload room (h .long) (λ z. omega arith))
 
   pub missed-leaves : Leaves b (missedImage b) (missedFrame (state b) .state)
   unfolding missedFrame
-  missed-leaves = leaves-unmarked (missedImage b) (marked (state b) 0) (missed-image b (h .long)) refl
+  missed-leaves = leaves-lowered (missedImage b) (fallen (state b)) (missed-image b (h .long)) refl
 
   -- ---- no byte is ever lost
   -- an image with a NaN's pattern is never accepted
@@ -188,16 +198,19 @@ module _ (tables b : List ℕ) (h : Lent b) where
   unfolding missedFrame
   nan-missed k l e = missed-same b (h .long) ∙ rw (nan-broken k l e)
 
-  -- a frame is accepted, and the image that it came with was exact; or each byte but the mark stays
-  pub nothing-lost : (payload : List ℕ) (room : ℕ) → Exact b ⊎ ((k : ℕ) → (k ≡ MARK → ⊥) → getD (decodeImage tables b payload room) k 0 ≡ getD b k 0)
+  before-stays : (k : ℕ) → (k ≡ MARK → ⊥) → (k ≡ SURE → ⊥) → getD (lowered b) k 0 ≡ getD b k 0
+  before-stays k p q = getD-set-other (set b MARK 0) SURE k 0 0 q ∙ getD-set-other b MARK k 0 0 p
+
+  -- a frame is accepted, and the image that it came with was exact; or each byte but the last two stays
+  pub nothing-lost : (payload : List ℕ) (room : ℕ) → Exact b ⊎ ((k : ℕ) → (k ≡ MARK → ⊥) → (k ≡ SURE → ⊥) → getD (decodeImage tables b payload room) k 0 ≡ getD b k 0)
   nothing-lost payload room = by (decodeNumber tables b payload room) refl
     where
-      by : (n : ℕ) → decodeNumber tables b payload room ≡ n → Exact b ⊎ ((k : ℕ) → (k ≡ MARK → ⊥) → getD (decodeImage tables b payload room) k 0 ≡ getD b k 0)
+      by : (n : ℕ) → decodeNumber tables b payload room ≡ n → Exact b ⊎ ((k : ℕ) → (k ≡ MARK → ⊥) → (k ≡ SURE → ⊥) → getD (decodeImage tables b payload room) k 0 ≡ getD b k 0)
       by zero e = inl (exact b h (accepted-no-nans payload room e))
-      by (suc n) e = inr (λ k p. ap (λ (l : List ℕ). getD l k 0) (image-refused tables b payload room (h .long) (λ z. omega arith)) ∙ getD-set-other b MARK k 0 0 p)
+      by (suc n) e = inr (λ k p q. ap (λ (l : List ℕ). getD l k 0) (image-refused tables b payload room (h .long) (λ z. omega arith)) ∙ before-stays k p q)
 
-  pub missed-loses-nothing : (k : ℕ) → (k ≡ MARK → ⊥) → getD (missedImage b) k 0 ≡ getD b k 0
-  missed-loses-nothing k p = ap (λ (l : List ℕ). getD l k 0) (missed-image b (h .long)) ∙ getD-set-other b MARK k 0 0 p
+  pub missed-loses-nothing : (k : ℕ) → (k ≡ MARK → ⊥) → (k ≡ SURE → ⊥) → getD (missedImage b) k 0 ≡ getD b k 0
+  missed-loses-nothing k p q = ap (λ (l : List ℕ). getD l k 0) (missed-image b (h .long)) ∙ before-stays k p q
 
 -- ---- any sequence of calls on an image, each given the image that the one before left. An event's room is in bytes
 unfoldable pub stepImage : List ℕ → List ℕ → Event → List ℕ

@@ -7,7 +7,7 @@ use native.Mathlib.Omega.{arith}
 use lib.Dec.{eqb, ltb}
 use borrow.Author.Tests.{eq-eqb, ne-eqb, ltb-true, ltb-false, lt-ltb, le-ltb}
 use lib.IntN.{ℤ}
-use lib.ListN.{length, getD, take, drop, length-take, length-drop, drop-of-length-le}
+use lib.ListN.{length, getD, take, drop, length-drop, drop-of-length-le}
 use lib.Seq.{take-nil, drop-nil, drop-drop, drop-cons, getD-take}
 use Rattle.stream.specs.Lines.{pieces, ofPieces, lines}
 use Rattle.stream.specs.Held.{zeros, push-text, push-count, shown-same}

@@ -82,6 +82,10 @@ subframes bytes x y = reported bytes (x .first) ∷ reported bytes (x .second) �
 unfoldable pub clipped : Half → Half → List Clipped
 clipped x y = x .«first_clipped» ∷ x .«second_clipped» ∷ y .«first_clipped» ∷ y .«second_clipped» ∷ []
 
+-- the pitch gains that they were mixed with
+unfoldable pub pitchGains : Half → Half → List ℤ
+pitchGains x y = x .first .«pitch_gain» ∷ x .second .«pitch_gain» ∷ y .first .«pitch_gain» ∷ y .second .«pitch_gain» ∷ []
+
 -- and their excitation
 unfoldable pub excitation : Half → Half → List ℤ
 excitation x y = (x .first .«mixed_excitation» ++ x .second .«mixed_excitation») ++ (y .first .«mixed_excitation» ++ y .second .«mixed_excitation»)
@@ -101,6 +105,7 @@ report bytes h =
       excitation = excitation (h .first .half) (h .second .half);
       subframes = subframes bytes (h .first .half) (h .second .half);
       clipped = clipped (h .first .half) (h .second .half);
+      «pitch_gains» = pitchGains (h .first .half) (h .second .half);
     }
 
 unfoldable pub decode : List ℤ → List ℕ → Core → List Float → FrameParams → Decoded

@@ -49,6 +49,8 @@ pub struct Decoded {
     pub excitation: [i16; 320],
     pub subframes: [Subframe; 4],
     pub clipped: [Clipped; 4],
+    // The pitch gain that each of them was mixed with.
+    pub pitch_gains: [i16; 4],
 }
 
 // Whether refusal 7 has nothing against the four code indexes.
@@ -219,6 +221,17 @@ fn clipped(x: Half, y: Half) -> [Clipped; 4]
     [a, b, c, d]
 }
 
+// The pitch gains that they were mixed with.
+fn pitch_gains(x: Half, y: Half) -> [i16; 4]
+    ensures { λ r. ⌜ r ≡ Frame.pitchGains x y ⌝ }
+{
+    let a = x.first;
+    let b = x.second;
+    let c = y.first;
+    let d = y.second;
+    [a.pitch_gain, b.pitch_gain, c.pitch_gain, d.pitch_gain]
+}
+
 // What a frame leaves, and what is reported of it, by its halves.
 fn report(bytes: &[u8], h: Both) -> Decoded
     requires { ⌜ length (now bytes) ≡ BYTES ⌝ ∗ ⌜ Named (h .first .half) ⌝ ∗ ⌜ Named (h .second .half) ⌝ }
@@ -232,6 +245,7 @@ fn report(bytes: &[u8], h: Both) -> Decoded
     put_excitation(x, y, &mut excitation[..]);
     let subframes = subframes(bytes, x, y);
     let clipped = clipped(x, y);
+    let pitch_gains = pitch_gains(x, y);
     let core = y.core;
     let residuals = b.residuals;
     Decoded {
@@ -240,6 +254,7 @@ fn report(bytes: &[u8], h: Both) -> Decoded
         excitation,
         subframes,
         clipped,
+        pitch_gains,
     }
 }
 

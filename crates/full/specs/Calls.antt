@@ -16,7 +16,7 @@ use Rattle.full.specs.Frame.{Native}
 use Rattle.full.specs.Frame as Full
 use Rattle.full.specs.FrameSame.{kept, frame-same}
 use Rattle.celp.specs.declared.State.{State}
-use Rattle.celp.specs.State.{marked, lspMean, initial, missedFrame}
+use Rattle.celp.specs.State.{fallen, lspMean, initial, missedFrame}
 use Rattle.celp.specs.Celp.{refusal, carried, next, decoded, accepted, answer, decode, written, samples}
 use Rattle.celp.specs.Cases.{refused-state}
 use Rattle.celp.specs.Run.{Event, heard, missed, step, run}
@@ -83,16 +83,16 @@ module _ (words : List ℤ) (bytes : List ℕ) where
       }
 
   -- a refused or a missed frame is none for the Rust: the decoder that is not called keeps our state's parts
-  marked-carries : (n : Native) (s : State) → Carries n s → Carries n (marked s 0)
+  fallen-carries : (n : Native) (s : State) → Carries n s → Carries n (fallen s)
   unfolding carried
-  marked-carries n s c = record { core = c .core; residuals = c .residuals; long = c .long }
+  fallen-carries n s c = record { core = c .core; residuals = c .residuals; long = c .long }
 
   pub refused-carries : (n : Native) (s : State) (payload : List ℕ) (room : ℕ) → Carries n s → (refusal words bytes s payload room ≡ 0 → ⊥) → Carries n (decode words bytes s payload room .state)
-  refused-carries n s payload room c h = rw (refused-state words bytes s payload room h) (marked-carries n s c)
+  refused-carries n s payload room c h = rw (refused-state words bytes s payload room h) (fallen-carries n s c)
 
   pub missed-carries : (n : Native) (s : State) → Carries n s → Carries n (missedFrame s .state)
   unfolding missedFrame
-  missed-carries n s c = marked-carries n s c
+  missed-carries n s c = fallen-carries n s c
 
   -- ---- along any sequence of calls: the full decoder is given the frames that ours accepts
   unfoldable pub fed : ℕ → Native → List ℕ → Native

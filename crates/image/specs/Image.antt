@@ -14,12 +14,12 @@ use Rattle.image.specs.Parts.{Part, part, size, join, cut}
 
 -- how many bytes an image has
 abbrev pub SIZE : ℕ
-SIZE = 525
+SIZE = 526
 
 -- the parts in their order, each with how many numbers it has and of how many bytes: LSP, excitation, synthesis memory, sharpen_fixed, last half lag,
--- the output filter's words and its numbers of 32 bits, residuals, gains, mark
+-- the output filter's words and its numbers of 32 bits, residuals, gains, mark, sure
 unfoldable pub layout : List Part
-layout = part 10 2 ∷ part 154 2 ∷ part 10 2 ∷ part 1 2 ∷ part 1 2 ∷ part 6 2 ∷ part 6 4 ∷ part 30 4 ∷ part 4 4 ∷ part 1 1 ∷ []
+layout = part 10 2 ∷ part 154 2 ∷ part 10 2 ∷ part 1 2 ∷ part 1 2 ∷ part 6 2 ∷ part 6 4 ∷ part 30 4 ∷ part 4 4 ∷ part 1 1 ∷ part 1 1 ∷ []
 
 size-is : size layout ≡ SIZE
 unfolding size layout
@@ -51,6 +51,7 @@ numbers s =
     ∷ map (toBits binary32) (s .residuals)
     ∷ map (toBits binary32) (s .gains)
     ∷ (s .mark ∷ [])
+    ∷ (s .sure ∷ [])
     ∷ []
 
 -- the state of such numbers
@@ -67,6 +68,7 @@ ofNumbers l =
       residuals = map (ofBits binary32) (getD l 7 []);
       gains = map (ofBits binary32) (getD l 8 []);
       mark = getD (getD l 9 []) 0 0;
+      sure = getD (getD l 10 []) 0 0;
     }
 
 -- the image of a state
@@ -97,6 +99,7 @@ pub record Held (s : State) : Type 0 where
   pub residuals-held : Single 30 (s .residuals)
   pub gains-held : Single 4 (s .gains)
   pub mark-held : s .mark < 256
+  pub sure-held : s .sure < 256
 
 -- none of an image's 34 floats is a NaN's pattern
 abbrev pub NoNans : List ℕ → Type 0

@@ -1,4 +1,4 @@
--- A state has one image, 525 bytes long. The image of a state, read again, is that state; and an image, read and written, is the same bytes, where none of its
+-- A state has one image, 526 bytes long. The image of a state, read again, is that state; and an image, read and written, is the same bytes, where none of its
 -- 34 floats is a NaN: the language has one NaN, and its pattern is written for each.
 use Prim.Native.Nat.{ℕ, zero, suc, _+_, _*_, _^_, _<_, _≤_}
 use mathlib.Core.Path.{_≡_, refl, sym, ap, _∙_}
@@ -32,7 +32,8 @@ module _ {ps : List Part} {ns : List (List ℕ)} (f : Fit ps ns) where
 fit : (s : State) → Held s → Fit layout (numbers s)
 unfolding layout numbers
 fit s h =
-    let a = one none 1 (s .mark) (h .mark-held) in
+    let z = one none 1 (s .sure) (h .sure-held) in
+    let a = one z 1 (s .mark) (h .mark-held) in
     let b = single a 4 (s .gains) (h .gains-held) in
     let c = single b 30 (s .residuals) (h .residuals-held) in
     let d = whole c 4 6 (s .iir) (h .iir-held) in
@@ -103,6 +104,7 @@ module _ (b : List ℕ) (h : Bytes b) where
         residuals-held = read-single 30 388;
         gains-held = read-single 4 508;
         mark-held = one-below 1 524;
+        sure-held = one-below 1 525;
       }
 
   -- as numbers again
@@ -128,7 +130,7 @@ module _ (b : List ℕ) (h : Bytes b) where
     state-numbers : numbers (state b) ≡ cut layout b 0
     unfolding state ofNumbers numbers cut layout
     state-numbers =
-        rw (again 2 10 0, again 2 154 20, again 2 10 328, alone-again 2 348, alone-is 2 348, alone-again 2 350, alone-is 2 350, again 2 6 352, again 4 6 364, float-again 30 0 388 (omega arith) refl, float-again 4 30 508 (omega arith) refl, alone-is 1 524)
+        rw (again 2 10 0, again 2 154 20, again 2 10 328, alone-again 2 348, alone-is 2 348, alone-again 2 350, alone-is 2 350, again 2 6 352, again 4 6 364, float-again 30 0 388 (omega arith) refl, float-again 4 30 508 (omega arith) refl, alone-is 1 524, alone-is 1 525)
 
     -- an image that is read and written is the same bytes
     pub image-back : length b ≡ SIZE → image (state b) ≡ b

@@ -1,4 +1,4 @@
-// A state as 525 bytes, and back: the parts in document 01's order, the lowest byte first, a float by its bits.
+// A state as 526 bytes, and back: the parts in document 01's order, the lowest byte first, a float by its bits.
 ghost use mathlib.Core.Path.{_≡_};
 ghost use mathlib.Core.List.{map};
 ghost use Prim.Native.Nat.{_+_, _*_, _≤_};
@@ -31,8 +31,10 @@ const GAINS: usize = RESIDUALS + 4 * 30;
 
 const MARK: usize = GAINS + 4 * 4;
 
+const SURE: usize = MARK + 1;
+
 // How many bytes an image has.
-pub const SIZE: usize = MARK + 1;
+pub const SIZE: usize = SURE + 1;
 
 // A number of 16 bits with its sign, out of its two bytes.
 fn word(low: u8, high: u8) -> i16
@@ -147,6 +149,7 @@ pub fn read(bytes: &[u8]) -> State
         residuals,
         gains,
         mark: bytes[MARK],
+        sure: bytes[SURE],
     }
 }
 
@@ -222,4 +225,5 @@ pub fn write(state: State, room: &mut [u8])
     put_floats(&state.residuals, room, RESIDUALS);
     put_floats(&state.gains, room, GAINS);
     room[MARK] = state.mark;
+    room[SURE] = state.sure;
 }

@@ -376,7 +376,7 @@ fn take_all(words: &[i16], bytes: &[u8], images: &mut [u8], recording: &[u8]) {
 fn run(words: &[i16], file: &[u8], recording: &[u8])
     requires { ⌜ Feed.Tables (now words) (now file) ⌝ }
 {
-    let mut images = [0u8; 8400];
+    let mut images = [0u8; 8416];
     take_all(words, &file[11926..], &mut images, recording);
 }
 

@@ -9,7 +9,7 @@ use lib.Bits.{bitAnd}
 use lib.Dec.{eqb, leb}
 use lib.ListN.{length, getD}
 use borrow.Author.Tests.{eq-eqb, ne-eqb, leb-true}
-use Rattle.sequence.specs.All.{all, and-right}
+use Rattle.sequence.specs.All.{all, and-left, and-right}
 use Rattle.sequence.specs.First.{some}
 use Rattle.floats.specs.Floats.{within}
 use Rattle.tables.specs.Places.{WORDS, BYTES}
@@ -73,5 +73,6 @@ module _ (words : List ℤ) (bytes : List ℕ) (s : State) (payload : List ℕ) 
       let o = accepted-means words bytes s payload 320 r .state-obeys in
       let f = all (within 131072) (s .residuals) in
       let g = all (within 131072) (s .gains) in
-      let k = leb-true (s .mark) 2 (and-right g (leb (s .mark) 2) (and-right f (g && leb (s .mark) 2) o)) in
+      let u = leb (s .mark) 2 && leb (s .sure) 2 in
+      let k = leb-true (s .mark) 2 (and-left (leb (s .mark) 2) (leb (s .sure) 2) (and-right g u (and-right f (g && u) o))) in
       omega arith

@@ -82,6 +82,7 @@ blank-held a b c m ha hb hc hm =
       residuals-held = silent 30;
       gains-held = silent 4;
       mark-held = hm;
+      sure-held = hm;
     }
 
 pub worked-holdable : Holdable over
@@ -93,22 +94,22 @@ worked-holdable =
 abbrev taken : ℕ → ℕ → List Slot
 taken n u = replicate n (record { users = u; frame = 7 })
 
--- 15 records, 17, and 8,399 bytes are 12, whatever the slot
-sizes : (Calls.hold (taken 15 1) 8400 99 ≡ refuse 12) × (Calls.hold (taken 17 1) 8400 0 ≡ refuse 12) × (Calls.letGo (taken 16 1) 8399 16 ≡ refuse 12) × (Calls.save (taken 16 1) 8401 first 0 ≡ refuse 12)
+-- 15 records, 17, and 8,415 bytes are 12, whatever the slot
+sizes : (Calls.hold (taken 15 1) 8416 99 ≡ refuse 12) × (Calls.hold (taken 17 1) 8416 0 ≡ refuse 12) × (Calls.letGo (taken 16 1) 8415 16 ≡ refuse 12) × (Calls.save (taken 16 1) 8417 first 0 ≡ refuse 12)
 unfolding Calls.hold Calls.letGo Calls.save judged lent
 sizes = (refl, refl, refl, refl)
 
 -- slot 15 is the last; slots 16 and 4,294,967,295, and one without users, are 13
-slots : (Calls.hold (taken 16 1) 8400 15 ≡ change 15 (record { users = 2; frame = 7 })) × (Calls.hold (taken 16 1) 8400 16 ≡ refuse 13) × (Calls.letGo (taken 16 1) 8400 4294967295 ≡ refuse 13) × (Calls.letGo (taken 16 0) 8400 3 ≡ refuse 13)
+slots : (Calls.hold (taken 16 1) 8416 15 ≡ change 15 (record { users = 2; frame = 7 })) × (Calls.hold (taken 16 1) 8416 16 ≡ refuse 13) × (Calls.letGo (taken 16 1) 8416 4294967295 ≡ refuse 13) × (Calls.letGo (taken 16 0) 8416 3 ≡ refuse 13)
 unfolding Calls.hold Calls.holdLent Calls.letGo Calls.letGoLent judged lent ofHeld
 slots = (refl, refl, refl, refl)
 
 -- the 255th user is the last: a hold at 255 is 14, and the users stay
-most : (Calls.hold (taken 16 254) 8400 2 ≡ change 2 (record { users = 255; frame = 7 })) × (Calls.hold (taken 16 255) 8400 2 ≡ refuse 14) × (slotsAfter (Calls.hold (taken 16 255) 8400 2) (taken 16 255) ≡ taken 16 255)
+most : (Calls.hold (taken 16 254) 8416 2 ≡ change 2 (record { users = 255; frame = 7 })) × (Calls.hold (taken 16 255) 8416 2 ≡ refuse 14) × (slotsAfter (Calls.hold (taken 16 255) 8416 2) (taken 16 255) ≡ taken 16 255)
 unfolding Calls.hold Calls.holdLent judged lent ofHeld slotsAfter
 most = (refl, refl, refl)
 
 -- the seventeenth save is 14, of a broken state too; a broken state is 5 where a slot is free
-full : (Calls.save (taken 16 1) 8400 first 0 ≡ refuse 14) × (Calls.save (taken 16 1) 8400 (marked first 3) 0 ≡ refuse 14) × (Calls.save (taken 15 1 ++ taken 1 0) 8400 (marked first 3) 0 ≡ refuse 5) × (Calls.save (taken 15 1 ++ taken 1 0) 8400 first 9 ≡ change 15 (record { users = 1; frame = 9 }))
+full : (Calls.save (taken 16 1) 8416 first 0 ≡ refuse 14) × (Calls.save (taken 16 1) 8416 (marked first 3 0) 0 ≡ refuse 14) × (Calls.save (taken 15 1 ++ taken 1 0) 8416 (marked first 3 0) 0 ≡ refuse 5) × (Calls.save (taken 15 1 ++ taken 1 0) 8416 first 9 ≡ change 15 (record { users = 1; frame = 9 }))
 unfolding Calls.save Calls.saveLent judged lent free firstFrom obeys within ofBits
 full = (refl, refl, refl, refl)

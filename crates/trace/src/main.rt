@@ -44,7 +44,8 @@ fn state_part(s: State, digest: bool) {
     let d = text(&mut out, c, b"mark");
     let e = number(&mut out, d, wide(s.mark));
     let f = end(&mut out, e);
-    part(&out, f, digest);
+    let g = sure_line(&mut out, f, s.sure);
+    part(&out, g, digest);
     if digest {
         io::write_all(STDOUT_FILENO, b"\n");
     }
@@ -59,6 +60,12 @@ fn head(name: &[u8], n: u8, digest: bool) {
     }
 }
 
+fn sure_line(out: &mut [u8; 4096], at: usize, sure: u8) -> usize {
+    let a = text(out, at, b"sure");
+    let b = number(out, a, wide(sure));
+    end(out, b)
+}
+
 fn clipped_line(out: &mut [u8; 4096], at: usize, c: Clipped) -> usize {
     let a = text(out, at, b"clipped");
     let b = number(out, a, wide(c.prediction));
@@ -68,7 +75,7 @@ fn clipped_line(out: &mut [u8; 4096], at: usize, c: Clipped) -> usize {
     end(out, f)
 }
 
-fn subframe_part(s: Subframe, clipped: Clipped, digest: bool) {
+fn subframe_part(s: Subframe, clipped: Clipped, sure: u8, digest: bool) {
     let mut out = io::buffer();
     let figures = s.figures;
     let lpc = s.lpc;
@@ -81,7 +88,8 @@ fn subframe_part(s: Subframe, clipped: Clipped, digest: bool) {
     let f = number(&mut out, e, wide(s.zero_residuals));
     let g = end(&mut out, f);
     let h = clipped_line(&mut out, g, clipped);
-    part(&out, h, digest);
+    let i = sure_line(&mut out, h, sure);
+    part(&out, i, digest);
 }
 
 fn numbers_part(name: &[u8], w: &[i16], digest: bool) {
@@ -101,10 +109,11 @@ fn answer_parts(a: Answer, samples: &[i16], digest: bool) {
     numbers_part(b"excitation", &excitation, digest);
     let subframes = a.subframes;
     let clipped = a.clipped;
-    subframe_part(subframes[0], clipped[0], digest);
-    subframe_part(subframes[1], clipped[1], digest);
-    subframe_part(subframes[2], clipped[2], digest);
-    subframe_part(subframes[3], clipped[3], digest);
+    let sure = a.sure;
+    subframe_part(subframes[0], clipped[0], sure[0], digest);
+    subframe_part(subframes[1], clipped[1], sure[1], digest);
+    subframe_part(subframes[2], clipped[2], sure[2], digest);
+    subframe_part(subframes[3], clipped[3], sure[3], digest);
 }
 
 // A line's call: the state after it.

@@ -18,12 +18,13 @@
 //! # The mark
 //!
 //! A frame is answered with a mark. 2: its sound has the sender's lags, gains and filters, if every loss was reported by [`Decoder::missed`] or was a
-//! refused frame. 0 or 1: the decoder is still recovering from a loss or from a late start, and what is heard may not be what was said.
+//! refused frame. 0 or 1: the decoder is still recovering from a loss or from a late start, and what is heard may not be what was said. Where
+//! [`Decoder::is_sure`], the next frame's excitation is the sender's too, sample for sample.
 //!
 //! # What goes wrong
 //!
-//! Any bytes of any length may be handed in. What is wrong with them is told by a [`Refusal`]. A refused frame counts as a lost one: only the mark
-//! changes, to 0.
+//! Any bytes of any length may be handed in. What is wrong with them is told by a [`Refusal`]. A refused frame counts as a lost one: the mark
+//! falls to 0, what was sure is so no longer, and nothing else changes.
 //!
 //! A decoder borrows its tables, so it cannot outlive them:
 //!
@@ -48,7 +49,7 @@ use std::fmt;
 /// The length of a table file, in bytes.
 pub const TABLES: usize = 15834;
 /// The length of an image: all that a decoder carries from one frame of a call to the next.
-pub const IMAGE: usize = 525;
+pub const IMAGE: usize = 526;
 /// The length of a frame, in bytes.
 pub const FRAME: usize = 20;
 /// How many samples a frame gives.
@@ -64,7 +65,7 @@ pub enum Refusal {
     FrameLength,
     /// The tables break a set rule.
     TablesRule,
-    /// The image is no decoder's: one of its floats is no number within 131,072, or its mark is above 2.
+    /// The image is no decoder's: one of its floats is no number within 131,072, or one of its last two bytes is above 2.
     ImageRule,
     /// One of the two highest bits of the frame's last byte is set.
     Padding,
@@ -98,7 +99,7 @@ impl fmt::Display for Refusal {
             Refusal::ImageRule => "the image is no decoder's",
             Refusal::Padding => "a padding bit of the frame is set",
             Refusal::CodeIndex => "a code index of the frame has no position",
-            Refusal::ImageLength => "the image is not 525 bytes long",
+            Refusal::ImageLength => "the image is not 526 bytes long",
         })
     }
 }
@@ -177,7 +178,7 @@ impl<'t> Decoder<'t> {
     /// Refused are another length, and bytes that are no decoder's. Which tables an image was made with cannot be told from it.
     pub fn from_image(tables: &'t Tables, image: &[u8]) -> Result<Decoder<'t>, Refusal> {
         let image: [u8; IMAGE] = image.try_into().map_err(|_| Refusal::ImageLength)?;
-        // a missed frame looks at the whole image and writes the mark alone, here a copy's
+        // a missed frame looks at the whole image and writes the last two bytes alone, here a copy's
         answered(ffi::missed_frame(&mut image.clone()))?;
         Ok(Decoder { tables: &tables.0, image })
     }
@@ -189,10 +190,15 @@ impl<'t> Decoder<'t> {
 
     /// The mark that the next frame will be answered with.
     pub fn mark(&self) -> u8 {
-        self.image[IMAGE - 1]
+        self.image[IMAGE - 2]
     }
 
-    /// Decodes a frame. Refused, it counts as lost: the mark falls to 0, and nothing else changes.
+    /// Whether, with mark 2, the next frame's excitation is the sender's throughout.
+    pub fn is_sure(&self) -> bool {
+        self.mark() == 2 && self.image[IMAGE - 1] == 2
+    }
+
+    /// Decodes a frame. Refused, it counts as lost: the mark falls to 0, what was sure is not, and nothing else changes.
     pub fn decode(&mut self, frame: &[u8]) -> Result<Decoded, Refusal> {
         let mark = self.mark();
         let mut room = [0; 2 * SAMPLES];

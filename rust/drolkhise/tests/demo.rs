@@ -87,13 +87,13 @@ fn a_call_goes_on_from_any_image() {
 }
 
 #[test]
-fn a_refused_frame_changes_the_mark_alone() {
+fn a_refused_frame_changes_the_last_two_bytes_alone() {
     let tables = tables();
     let mut call = Decoder::reset(&tables);
     let good = frame(&lines("call")[60]).unwrap();
     call.decode(&good).unwrap();
     let before = *call.image();
-    let left = |call: &Decoder| call.image()[..IMAGE - 1] == before[..IMAGE - 1] && call.mark() == 0;
+    let left = |call: &Decoder| call.image()[..IMAGE - 2] == before[..IMAGE - 2] && call.image()[IMAGE - 2..] == [0, 0] && call.mark() == 0 && !call.is_sure();
     let mut padding = good.clone();
     padding[FRAME - 1] |= 0x40;
     assert_eq!(call.decode(&padding), Err(Refusal::Padding));
@@ -138,21 +138,25 @@ fn images_of_another_length_or_no_decoders_are_refused() {
     }
     for mark in 0..=255 {
         let mut other = image;
-        other[IMAGE - 1] = mark;
+        other[IMAGE - 2] = mark;
         let got = Decoder::from_image(&tables, &other).map(|call| call.mark());
         assert_eq!(got, if mark <= 2 { Ok(mark) } else { Err(Refusal::ImageRule) });
+        let mut other = image;
+        other[IMAGE - 1] = mark;
+        let got = Decoder::from_image(&tables, &other).map(|call| call.is_sure());
+        assert_eq!(got, if mark <= 2 { Ok(mark == 2) } else { Err(Refusal::ImageRule) });
     }
     let mut nan = image;
-    nan[IMAGE - 5..IMAGE - 1].copy_from_slice(&f32::NAN.to_le_bytes());
+    nan[IMAGE - 6..IMAGE - 2].copy_from_slice(&f32::NAN.to_le_bytes());
     assert_eq!(Decoder::from_image(&tables, &nan).unwrap_err(), Refusal::ImageRule);
 }
 
 #[test]
-fn the_two_beginnings_differ_in_the_mark_alone() {
+fn the_two_beginnings_differ_in_the_last_two_bytes_alone() {
     let tables = tables();
     let (warm, cold) = (Decoder::reset(&tables), Decoder::cold(&tables));
-    assert_eq!((warm.mark(), cold.mark()), (2, 0));
-    assert_eq!(warm.image()[..IMAGE - 1], cold.image()[..IMAGE - 1]);
+    assert_eq!((warm.mark(), warm.is_sure(), cold.mark(), cold.is_sure()), (2, true, 0, false));
+    assert_eq!(warm.image()[..IMAGE - 2], cold.image()[..IMAGE - 2]);
 }
 
 #[test]

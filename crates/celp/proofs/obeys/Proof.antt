@@ -1,4 +1,4 @@
--- The three tests are those of the definition, in its order.
+-- The tests are those of the definition, in its order.
 use borrow.Author.Needs.{needs}
 use borrow.Author.Tests.{not-true, not-false}
 use Rattle.celp.specs.State.{obeys}
@@ -23,14 +23,18 @@ returns-2 c =
     let b = c .before .all-within2 in
     rw (← (a .ensures), not-false (a .result) (d .if1 .left), ← (b .ensures), not-true (b .result) (c .if2 .taken))
 
+both-small-requires : tie.Need-both-small-requires
+both-small-requires c κs = search needs
+
 returns-3 : tie.Need-returns-3
 unfolding obeys
 returns-3 c =
-    let d = c .before .before .before .before .before in
+    let e = c .before in
+    let d = e .before .before .before .before .before in
     let a = d .before .all-within in
-    let b = c .before .all-within2 in
-    rw (← (a .ensures), not-false (a .result) (d .if1 .left), ← (b .ensures), not-false (b .result) (c .if2 .left))
+    let b = e .before .all-within2 in
+    rw (← (a .ensures), not-false (a .result) (d .if1 .left), ← (b .ensures), not-false (b .result) (e .if2 .left)) (c .both-small .ensures)
 
 pub obeys-spec : {M : Type 1} → statement M
 obeys-spec =
-    tie.close (tie.spec all-within-requires returns all-within-requires-2 returns-2 returns-3)
+    tie.close (tie.spec all-within-requires returns all-within-requires-2 returns-2 both-small-requires returns-3)

@@ -1,8 +1,9 @@
 -- The lengths decide first; then the answer is that of the call on states.
 use Prim.Native.Nat.{ℕ, _*_}
 use mathlib.Core.Path.{_≡_, refl, sym, ap, _∙_}
+use native.Mathlib.Omega.{arith}
 use lib.IntN.{pos}
-use lib.ListN.{replicate}
+use lib.ListN.{replicate, length-set}
 use Rattle.celp.specs.Celp as Celp
 use Rattle.image.specs.Image.{state}
 use Rattle.desk.specs.Desk.{words, bytes, sampleBytes}
@@ -19,6 +20,9 @@ returns c =
 slice-write-image : tie.Need-slice-write-image
 slice-write-image c = search needs
 
+slice-write-image-2 : tie.Need-slice-write-image-2
+slice-write-image-2 c = simp length-set (omega arith)
+
 same-length : tie.Need-same-length
 same-length c = search needs
 
@@ -28,8 +32,11 @@ returns-2 c =
     let a = e .before .before .before .before .before .args in
     decode-one (a .tables .now) (a .image .now) (a .payload .now) (a .samples .now) (e .if1 .left) (c .if2 .taken)
 
-slice-write-image-2 : tie.Need-slice-write-image-2
-slice-write-image-2 c = search needs
+slice-write-image-3 : tie.Need-slice-write-image-3
+slice-write-image-3 c = search needs
+
+slice-write-image-4 : tie.Need-slice-write-image-4
+slice-write-image-4 c = simp length-set (omega arith)
 
 same-length-2 : tie.Need-same-length-2
 same-length-2 c = search needs
@@ -68,8 +75,11 @@ slice-aggregate-decode-2 c = search needs
 decode-requires : tie.Need-decode-requires
 decode-requires c κs = search needs
 
-slice-write-image-3 : tie.Need-slice-write-image-3
-slice-write-image-3 c = search (needs, c .before .before .before .before .before .before .before .before .before .before .before .before .before .before .if1 .left)
+slice-write-image-5 : tie.Need-slice-write-image-5
+slice-write-image-5 c = search (needs, c .before .before .before .before .before .before .before .before .before .before .before .before .before .before .if1 .left)
+
+slice-write-image-6 : tie.Need-slice-write-image-6
+slice-write-image-6 c = let e = c .before .before .before .before .before .before .before .before .before .before .before .before .before .before .if1 .left in simp length-set (omega arith)
 
 same-length-3 : tie.Need-same-length-3
 same-length-3 c = search needs
@@ -124,9 +134,11 @@ drolkhise-decode-spec =
     (tie.spec
     returns
     slice-write-image
+    slice-write-image-2
     same-length
     returns-2
-    slice-write-image-2
+    slice-write-image-3
+    slice-write-image-4
     same-length-2
     returns-3
     slice-aggregate-read-words
@@ -138,7 +150,8 @@ drolkhise-decode-spec =
     part-decode-end
     slice-aggregate-decode-2
     decode-requires
-    slice-write-image-3
+    slice-write-image-5
+    slice-write-image-6
     same-length-3
     returns-4
     write-requires

@@ -2,7 +2,7 @@
 use Prim.Native.Nat.{_≤_}
 use mathlib.Core.Path.{sym, _∙_}
 use native.Mathlib.Omega.{arith}
-use lib.ListN.{length}
+use lib.ListN.{length, length-set}
 use Rattle.desk.specs.FramesSame.{samples-in-top}
 use Rattle.desk.proofs.Outcomes.{front-long, frames-eleven, frames-one}
 use borrow.Author.Needs.{needs}
@@ -22,6 +22,9 @@ returns c =
 
 slice-write-image : tie.Need-slice-write-image
 slice-write-image c = search needs
+
+slice-write-image-2 : tie.Need-slice-write-image-2
+slice-write-image-2 c = simp length-set (omega arith)
 
 same-length : tie.Need-same-length
 same-length c = search needs
@@ -61,6 +64,7 @@ drolkhise-decode-frames-spec =
     (tie.spec
     returns
     slice-write-image
+    slice-write-image-2
     same-length
     returns-2
     samples-in-requires

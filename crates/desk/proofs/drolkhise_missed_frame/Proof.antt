@@ -2,6 +2,8 @@
 use mathlib.Core.Path.{ap, _∙_}
 use Rattle.celp.specs.State.{missedFrame}
 use Rattle.desk.proofs.Outcomes.{missed-eleven, missed-told}
+use native.Mathlib.Omega.{arith}
+use lib.ListN.{length-set}
 use borrow.Author.Needs.{needs}
 use Rattle.desk.proofs.drolkhise_missed_frame.Statement.{statement}
 use Rattle.desk.proofs.drolkhise_missed_frame.Tie as tie
@@ -18,6 +20,9 @@ missed-frame-requires c κs = search needs
 slice-write-image : tie.Need-slice-write-image
 slice-write-image c = search needs
 
+slice-write-image-2 : tie.Need-slice-write-image-2
+slice-write-image-2 c = simp length-set (omega arith)
+
 same-length : tie.Need-same-length
 same-length c = search needs
 
@@ -29,4 +34,4 @@ returns-2 c =
 pub drolkhise-missed-frame-spec : {M : Type 1} → statement M
 drolkhise-missed-frame-spec =
     tie.close
-    (tie.spec returns read-requires missed-frame-requires slice-write-image same-length returns-2)
+    (tie.spec returns read-requires missed-frame-requires slice-write-image slice-write-image-2 same-length returns-2)

@@ -1,7 +1,7 @@
 -- The call on states was given what the definitions give it; its answer decides.
 use mathlib.Core.Path.{_≡_, refl}
 use native.Mathlib.Omega.{arith}
-use lib.ListN.{length}
+use lib.ListN.{length, length-set}
 use Rattle.desk.specs.Desk.{words, standing}
 use Rattle.desk.specs.FramesSame.{samples-in-most}
 use Rattle.desk.proofs.Outcomes.{words-are, standing-are, frames-declined, frames-accepted}
@@ -52,6 +52,9 @@ decode-frames-requires c κs = search needs
 
 slice-write-image : tie.Need-slice-write-image
 slice-write-image c = let e = start (c .before .before .before .before .before) .pre .0 in omega arith
+
+slice-write-image-2 : tie.Need-slice-write-image-2
+slice-write-image-2 c = let e = start (c .before .before .before .before .before) .pre .0 in simp length-set (omega arith)
 
 same-length : tie.Need-same-length
 same-length c = search needs
@@ -116,6 +119,7 @@ frames-spec =
     part-decode-frames-end
     decode-frames-requires
     slice-write-image
+    slice-write-image-2
     same-length
     same-length-2
     same-length-3

@@ -16,11 +16,15 @@ subframes-requires c κs = search needs
 clipped-requires : tie.Need-clipped-requires
 clipped-requires c κs = search needs
 
+pitch-gains-requires : tie.Need-pitch-gains-requires
+pitch-gains-requires c κs = search needs
+
 returns : tie.Need-returns
 unfolding report
-returns c = rw (c .before .before .before .before .before .put-excitation .ensures, c .before .before .before .subframes .ensures, c .before .before .clipped .ensures)
+returns c =
+    rw (c .before .before .before .before .before .before .put-excitation .ensures, c .before .before .before .before .subframes .ensures, c .before .before .before .clipped .ensures, c .before .before .pitch-gains .ensures)
 
 pub report-spec : {M : Type 1} → statement M
 report-spec =
     tie.close
-    (tie.spec slice-aggregate-put-excitation put-excitation-requires subframes-requires clipped-requires returns)
+    (tie.spec slice-aggregate-put-excitation put-excitation-requires subframes-requires clipped-requires pitch-gains-requires returns)

@@ -72,9 +72,12 @@ array-copy-out-t38 c = search needs
 shared-slice-read-t44 : tie.Need-shared-slice-read-t44
 shared-slice-read-t44 c = omega (arith, c .before .before .before .before .before .before .before .before .before .before .before .before .before .before .before .before .before .before .before .before .before .before .before .before .before .before .before .before .before .before .before .pre)
 
+shared-slice-read-t46 : tie.Need-shared-slice-read-t46
+shared-slice-read-t46 c = omega (arith, c .before .before .before .before .before .before .before .before .before .before .before .before .before .before .before .before .before .before .before .before .before .before .before .before .before .before .before .before .before .before .before .before .pre)
+
 returns : tie.Need-returns
 returns c =
-    let i = c .before .before .before .before in
+    let i = c .before .before .before .before .before in
     let h = i .before .before .before in
     let g = h .before .before .before in
     let f = g .before .before .before in
@@ -85,8 +88,8 @@ returns c =
     let u = v .before .before .before in
     let s = u .before .before .before in
     state-is (s .args .bytes .now) _ _ _ _ _ _ _ _ _ _ _
-    (toZ-ofZ {w = w16} {z = getD (d .read-words4 .last .1 .1 .0) 0 (pos 0)} (sfits-of (c .before .before .t35 .given)))
-    (toZ-ofZ {w = w16} {z = getD (e .read-words5 .last .1 .1 .0) 0 (pos 0)} (sfits-of (c .before .t38 .given)))
+    (toZ-ofZ {w = w16} {z = getD (d .read-words4 .last .1 .1 .0) 0 (pos 0)} (sfits-of (c .before .before .before .t35 .given)))
+    (toZ-ofZ {w = w16} {z = getD (e .read-words5 .last .1 .1 .0) 0 (pos 0)} (sfits-of (c .before .before .t38 .given)))
     (u .read-words .ensures) (v .read-words2 .ensures) (w .read-words3 .ensures) (d .read-words4 .ensures) (e .read-words5 .ensures) (f .read-words6 .ensures) (g .read-longs .ensures) (h .read-floats .ensures) (i .read-floats2 .ensures)
 
 pub read-spec : {M : Type 1} → statement M
@@ -114,4 +117,5 @@ read-spec =
     array-copy-out-t35
     array-copy-out-t38
     shared-slice-read-t44
+    shared-slice-read-t46
     returns)

@@ -4,7 +4,7 @@ use mathlib.Core.List.{[], _∷_}
 use Prim.Native.Nat.{_<_}
 use native.Mathlib.Omega.{arith}
 use lib.IntN.{ℤ}
-use lib.ListN.{length, length-set}
+use lib.ListN.{length, set, length-set}
 use lib.Seq.{sets}
 use mir.Syntax.{w16}
 use mir.Facts.{toZ-ofZ}
@@ -16,31 +16,31 @@ use Rattle.image.proofs.write.Statement.{statement}
 use Rattle.image.proofs.write.Tie as tie
 
 -- the room stays as long as it was
-long1 : (c : tie.After-put-words) → length (c .put-words .last .1 .0) ≡ 525
+long1 : (c : tie.After-put-words) → length (c .put-words .last .1 .0) ≡ 526
 long1 c = c .put-words .kept .1 .0 ∙ c .before .before .before .before .before .before .before .before .pre
 
-long2 : (c : tie.After-put-words2) → length (c .put-words2 .last .1 .0) ≡ 525
+long2 : (c : tie.After-put-words2) → length (c .put-words2 .last .1 .0) ≡ 526
 long2 c = c .put-words2 .kept .1 .0 ∙ long1 (c .before .before .before .before .before .before .before)
 
-long3 : (c : tie.After-put-words3) → length (c .put-words3 .last .1 .0) ≡ 525
+long3 : (c : tie.After-put-words3) → length (c .put-words3 .last .1 .0) ≡ 526
 long3 c = c .put-words3 .kept .1 .0 ∙ long2 (c .before .before .before .before .before .before .before)
 
-long4 : (c : tie.After-put-words4) → length (c .put-words4 .last .1 .0) ≡ 525
+long4 : (c : tie.After-put-words4) → length (c .put-words4 .last .1 .0) ≡ 526
 long4 c = c .put-words4 .kept .1 .0 ∙ long3 (c .before .before .before .before .before)
 
-long5 : (c : tie.After-put-words5) → length (c .put-words5 .last .1 .0) ≡ 525
+long5 : (c : tie.After-put-words5) → length (c .put-words5 .last .1 .0) ≡ 526
 long5 c = c .put-words5 .kept .1 .0 ∙ long4 (c .before .before .before .before .before)
 
-long6 : (c : tie.After-put-words6) → length (c .put-words6 .last .1 .0) ≡ 525
+long6 : (c : tie.After-put-words6) → length (c .put-words6 .last .1 .0) ≡ 526
 long6 c = c .put-words6 .kept .1 .0 ∙ long5 (c .before .before .before .before .before .before .before)
 
-long7 : (c : tie.After-put-longs) → length (c .put-longs .last .1 .0) ≡ 525
+long7 : (c : tie.After-put-longs) → length (c .put-longs .last .1 .0) ≡ 526
 long7 c = c .put-longs .kept .1 .0 ∙ long6 (c .before .before .before .before .before .before .before)
 
-long8 : (c : tie.After-put-floats) → length (c .put-floats .last .1 .0) ≡ 525
+long8 : (c : tie.After-put-floats) → length (c .put-floats .last .1 .0) ≡ 526
 long8 c = c .put-floats .kept .1 .0 ∙ long7 (c .before .before .before .before .before .before .before)
 
-long9 : (c : tie.After-put-floats2) → length (c .put-floats2 .last .1 .0) ≡ 525
+long9 : (c : tie.After-put-floats2) → length (c .put-floats2 .last .1 .0) ≡ 526
 long9 c = c .put-floats2 .kept .1 .0 ∙ long8 (c .before .before .before .before .before .before .before)
 
 -- how long each array is
@@ -101,14 +101,17 @@ put-floats-requires-2 c κs = omega (arith, long8 (c .before .before .before .be
 slice-write-room : tie.Need-slice-write-room
 slice-write-room c = omega (arith, long9 (c .before .before))
 
+slice-write-room-2 : tie.Need-slice-write-room-2
+slice-write-room-2 c = simp length-set (omega (arith, long9 (c .before .before)))
+
 same-length : tie.Need-same-length
 same-length c =
     let p = c .before .before in
     let s = p .before .before .before .before .before .before .before .before .before .before .before .before .before .before .before .before .before .before .before .before .before .before .before .before .before .before .before .before .before .before .before .before .before .before .before .before .before .before .before .before .before .before .before .before .before .before .before .before .before .before .before .before .before .before .before .before .before .before .before .before in
-    length-set (p .put-floats2 .last .1 .0) 524 (s .args .t1 .mark) ∙ long9 p ∙ sym (s .pre)
+    length-set (set (p .put-floats2 .last .1 .0) 524 (s .args .t1 .mark)) 525 (s .args .t1 .sure) ∙ length-set (p .put-floats2 .last .1 .0) 524 (s .args .t1 .mark) ∙ long9 p ∙ sym (s .pre)
 
-mark-small : (c : tie.After-struct-told) → c .before .before .args .t1 .mark < 256
-mark-small c = omega arith
+last-small : (c : tie.After-struct-told) → (c .before .before .args .t1 .mark < 256) × (c .before .before .args .t1 .sure < 256)
+last-small c = (omega arith, omega arith)
 
 returns : tie.Need-returns
 returns c =
@@ -122,7 +125,8 @@ returns c =
     let v = w .before .before .before .before .before .before .before in
     let u = v .before .before .before .before .before .before .before in
     let s = u .before .before .before .before .before .before .before .before in
-    let l : Long (s .args .t1) = record { lsp-long = lsp-long (u .before); excitation-long = excitation-long (v .before); memory-long = memory-long (w .before); fir-long = fir-long (f .before); iir-long = iir-long (g .before); residuals-long = residuals-long (h .before); gains-long = gains-long (i .before); mark-small = mark-small (u .before .before .before .before .before .before) } in
+    let small = last-small (u .before .before .before .before .before .before) in
+    let l : Long (s .args .t1) = record { lsp-long = lsp-long (u .before); excitation-long = excitation-long (v .before); memory-long = memory-long (w .before); fir-long = fir-long (f .before); iir-long = iir-long (g .before); residuals-long = residuals-long (h .before); gains-long = gains-long (i .before); mark-small = small .0; sure-small = small .1 } in
     image-is (s .args .t1) l (s .args .room .now) (u .put-words .last .1 .0) (v .put-words2 .last .1 .0) (w .put-words3 .last .1 .0) (d .put-words4 .last .1 .0) (e .put-words5 .last .1 .0) (f .put-words6 .last .1 .0) (g .put-longs .last .1 .0) (h .put-floats .last .1 .0) (i .put-floats2 .last .1 .0) (s .pre)
     (u .put-words .ensures) (v .put-words2 .ensures) (w .put-words3 .ensures)
     (d .put-words4 .ensures ∙ ap (λ (z : ℤ). sets (w .put-words3 .last .1 .0) 348 (bytesOfAll 2 (unsigned 2 z ∷ []))) (toZ-ofZ {w = w16} {z = s .args .t1 .«sharpen_fixed»} (sfits-of (u .before .before .before .before .before .before .struct-told .given .1 .1 .1 .0 .1))))
@@ -145,5 +149,6 @@ write-spec =
     put-floats-requires
     put-floats-requires-2
     slice-write-room
+    slice-write-room-2
     same-length
     returns)

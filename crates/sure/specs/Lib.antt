@@ -1,0 +1,4 @@
+pub mod Sure
+pub mod Again
+pub mod AgainHalf
+pub mod AgainFrame
