@@ -108,7 +108,7 @@ class Browser:
         self.ask("Emulation.setEmulatedMedia", features=[dict(name=name.replace("_", "-"), value=value) for name, value in features.items()])
 
     def picture(self, path, whole=True):
-        self.run("new Promise((drawn) => requestAnimationFrame(() => requestAnimationFrame(drawn)))")
+        self.run("scrollTo(0, 0), new Promise((drawn) => requestAnimationFrame(() => requestAnimationFrame(drawn)))")
         got = self.ask("Page.captureScreenshot", format="png", captureBeyondViewport=whole)
         with open(path, "wb") as f:
             f.write(base64.b64decode(got["data"]))

@@ -1,19 +1,27 @@
-// How a call's page plays: buttons, the slider and clicks in the wave move one sound, and its time moves the cursor.
+// How a call's page plays: buttons, the slider and clicks in the wave move one channel's sound, and its time moves the cursor.
 "use strict";
 const byId = (id) => document.getElementById(id);
 const data = JSON.parse(byId("data").textContent);
-const text = atob(data.sound);
-const bytes = new Uint8Array(text.length);
-for (let k = 0; k < text.length; k++) bytes[k] = text.charCodeAt(k);
-const sound = new Audio(URL.createObjectURL(new Blob([bytes], { type: "audio/wav" })));
 const tiles = [...document.querySelectorAll(".second")];
 const still = matchMedia("(prefers-reduced-motion: reduce)");
 const cursor = document.createElement("div");
 cursor.id = "cursor";
 
+function player(channel) {
+  const text = atob(channel.sound);
+  const bytes = new Uint8Array(text.length);
+  for (let k = 0; k < text.length; k++) bytes[k] = text.charCodeAt(k);
+  return new Audio(URL.createObjectURL(new Blob([bytes], { type: "audio/wav" })));
+}
+
+const sounds = data.map(player);
+let heard = Math.max(0, data.findIndex((channel) => channel.length > 0)); // the channel that is heard
+let sound = sounds[heard];
+
 const seconds = (at) => (at >= 60 ? `${Math.floor(at / 60)}:${(at % 60).toFixed(2).padStart(5, "0")}` : `${at.toFixed(2)}\u00a0s`);
 const end = () => Number(byId("at").max);
-const passage = (at) => (data.passages.find(([to]) => at < to - 1e-6) ?? data.passages.at(-1) ?? [0, "nothing"])[1];
+const passages = () => data[heard].passages;
+const passage = (at) => (passages().find(([to]) => at < to - 1e-6) ?? passages().at(-1) ?? [0, "nothing"])[1];
 
 function inSight(tile) {
   const box = tile.getBoundingClientRect();
@@ -24,8 +32,9 @@ function show() {
   const at = Math.min(sound.currentTime, end());
   const k = Math.min(Math.floor(at), tiles.length - 1);
   const before = cursor.parentNode;
-  if (before !== tiles[k]) {
-    tiles[k].append(cursor);
+  const lane = tiles[k].querySelector(`.lane[data-channel="${heard}"]`);
+  if (before !== lane) {
+    lane.append(cursor);
     // the page follows only who looks at the cursor
     if (before && !sound.paused && inSight(before)) tiles[k].scrollIntoView({ block: "nearest" });
   }
@@ -49,15 +58,32 @@ async function play() {
   try {
     await sound.play();
   } catch (why) {
+    if (why.name === "AbortError") return; // paused, or another channel chosen, before it began
     byId("said").className = "fault"; // to be seen too
     byId("said").textContent = `The browser did not play the sound: ${why.message}`;
   }
 }
 
+// Another channel is heard, from the same time on, alone.
+function hear(k) {
+  if (k === heard) return;
+  const at = sound.currentTime;
+  const playing = !sound.paused;
+  sound.pause();
+  heard = k;
+  sound = sounds[k];
+  byId("at").max = data[k].length.toFixed(2);
+  for (const choice of document.querySelectorAll("input[name=channel]")) choice.checked = Number(choice.value) === k;
+  go(at);
+  if (playing && at < end()) play();
+  else state();
+}
+
 function state() {
   byId("play").textContent = sound.paused ? "Play" : "Pause";
   byId("said").className = "hidden";
-  byId("said").textContent = `${sound.paused ? "Stopped at" : "Playing from"} ${seconds(sound.currentTime)}`;
+  const whose = data.length > 1 ? `Channel ${data[heard].name}: ` : "";
+  byId("said").textContent = `${whose}${sound.paused ? "Stopped at" : "Playing from"} ${seconds(sound.currentTime)}`;
   turn();
 }
 
@@ -65,20 +91,29 @@ byId("play").onclick = () => (sound.paused ? play() : sound.pause());
 byId("back").onclick = () => go(sound.currentTime - 1);
 byId("on").onclick = () => go(sound.currentTime + 1);
 byId("at").oninput = () => go(Number(byId("at").value));
+for (const choice of document.querySelectorAll("input[name=channel]")) choice.onchange = () => hear(Number(choice.value));
 tiles.forEach((tile, k) => {
-  tile.onclick = (e) => {
-    const box = tile.getBoundingClientRect();
-    go(k + (e.clientX - box.left) / box.width);
-    play();
-  };
+  for (const lane of tile.querySelectorAll(".lane")) {
+    lane.onclick = (e) => {
+      if (!data[lane.dataset.channel].length) return; // nothing was heard in it
+      const box = tile.getBoundingClientRect();
+      hear(Number(lane.dataset.channel));
+      go(k + (e.clientX - box.left) / box.width);
+      play();
+    };
+  }
 });
 for (const button of document.querySelectorAll("button[data-at]")) {
   button.onclick = () => {
+    hear(Number(button.dataset.channel));
     go(Number(button.dataset.at));
     play();
   };
 }
-sound.onplay = sound.onpause = sound.onended = state;
-sound.ontimeupdate = show;
-byId("save").href = sound.src;
+sounds.forEach((one, k) => {
+  // a channel that was left stops without a word
+  one.onplay = one.onpause = one.onended = () => k === heard && state();
+  one.ontimeupdate = () => k === heard && show();
+});
+for (const link of document.querySelectorAll("a[data-save]")) link.href = sounds[link.dataset.save].src;
 show();

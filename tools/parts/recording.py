@@ -1,10 +1,11 @@
-"""What the programs make of a recording, and its sound: for tools/wav and tools/page."""
+"""What the programs make of a recording, and its sound: for tools/wav, tools/page and tools/two_channels."""
 import array, io, os, struct, subprocess, sys, tempfile, wave
 
 TOOLS = os.path.dirname(os.path.dirname(os.path.abspath(__file__)))
 NAME = os.path.basename(sys.argv[0])  # who says what is wrong
 RATE = 8000  # docs/DECISIONS.md says why
 FRAME = 320
+LETTERS = (b"a ", b"b ")  # how a line of a two-channel recorder begins
 WHY = {"6": "a padding bit is set", "7": "a code index has no position", "9": "not 40 hexadecimal digits"}
 
 
@@ -28,12 +29,24 @@ def told(program, tables, recording):
         sys.exit(f"{NAME}: {program} did not run to its end (exit status {ran.returncode})")
 
 
-def decoded(tables, recording):
-    """What decode writes of a recording."""
+def lines_of(text):
+    """The lines of a text, the last of which may lack its newline."""
+    lines = text.split(b"\n")
+    return lines if lines[-1] else lines[:-1]
+
+
+def share(letter, lines):
+    """A channel's lines, as decode is to be given them: `-` for a line that is neither's. A `+` behind a letter opens nothing, so that it becomes `-` as well."""
+    rests = [line[2:] if line[:2] == letter else b"-" for line in lines if line[:2] == letter or line[:2] not in LETTERS]
+    return b"".join((b"-" if rest == b"+" else rest) + b"\n" for rest in rests)
+
+
+def decoded(program, tables, recording):
+    """What decode, or two_channels, writes of a recording."""
     for path, what in (tables, "the table file"), (recording, "the recording"):
         if not os.path.exists(path):
             sys.exit(f"{NAME}: no file {path}, {what}")
-    lines = list(told("decode", tables, recording))
+    lines = list(told(program, tables, recording))
     if lines and lines[0].startswith("tables refused"):
         sys.exit(f"{NAME}: {tables}: {lines[0]}: {tables_why(tables, *lines[0].split(' ')[2:])}")
     return lines

@@ -18,6 +18,19 @@ extern "C" {
         samples: *mut u8,
         samples_length: usize,
     ) -> u8;
+    #[rustfmt::skip]
+    fn drolkhise_decode_frames(
+        tables: *const u8,
+        tables_length: usize,
+        image: *mut u8,
+        image_length: usize,
+        payloads: *const u8,
+        payloads_length: usize,
+        samples: *mut u8,
+        samples_length: usize,
+        numbers: *mut u8,
+        numbers_length: usize,
+    ) -> u8;
     fn drolkhise_missed_frame(image: *mut u8, image_length: usize) -> u8;
 }
 
@@ -36,6 +49,24 @@ pub fn decode(tables: &[u8], image: &mut [u8], payload: &[u8], samples: &mut [u8
     // nothing; the two that are only read might be one, which nothing can tell.
     unsafe {
         drolkhise_decode(tables.as_ptr(), tables.len(), image.as_mut_ptr(), image.len(), payload.as_ptr(), payload.len(), samples.as_mut_ptr(), samples.len())
+    }
+}
+
+pub fn decode_frames(tables: &[u8], image: &mut [u8], payloads: &[u8], samples: &mut [u8], numbers: &mut [u8]) -> u8 {
+    // SAFETY: as for `decode`, with `numbers` written too, and `samples` read before it is written: a slice has been given values.
+    unsafe {
+        drolkhise_decode_frames(
+            tables.as_ptr(),
+            tables.len(),
+            image.as_mut_ptr(),
+            image.len(),
+            payloads.as_ptr(),
+            payloads.len(),
+            samples.as_mut_ptr(),
+            samples.len(),
+            numbers.as_mut_ptr(),
+            numbers.len(),
+        )
     }
 }
 

@@ -54,6 +54,8 @@ pub const IMAGE: usize = 526;
 pub const FRAME: usize = 20;
 /// How many samples a frame gives.
 pub const SAMPLES: usize = 320;
+/// How many frames one call of [`Decoder::decode_frames`] may have.
+pub const MOST_FRAMES: usize = 64;
 
 /// Why something was refused. [`Refusal::number`] is the number that the C header and the programs have for it.
 #[derive(Clone, Copy, Debug, PartialEq, Eq, Hash)]
@@ -61,7 +63,7 @@ pub const SAMPLES: usize = 320;
 pub enum Refusal {
     /// The tables are not [`TABLES`] bytes long.
     TablesLength,
-    /// The frame is not [`FRAME`] bytes long.
+    /// The frame is not [`FRAME`] bytes long, or several are not 1 to [`MOST_FRAMES`] frames.
     FrameLength,
     /// The tables break a set rule.
     TablesRule,
@@ -94,7 +96,7 @@ impl fmt::Display for Refusal {
     fn fmt(&self, f: &mut fmt::Formatter<'_>) -> fmt::Result {
         f.write_str(match self {
             Refusal::TablesLength => "the tables are not 15,834 bytes long",
-            Refusal::FrameLength => "the frame is not 20 bytes long",
+            Refusal::FrameLength => "the frame is not 20 bytes long, or there are not 1 to 64",
             Refusal::TablesRule => "the tables break a set rule",
             Refusal::ImageRule => "the image is no decoder's",
             Refusal::Padding => "a padding bit of the frame is set",
@@ -147,6 +149,15 @@ pub struct Decoded {
     pub mark: u8,
     /// The sound, 8,000 samples a second.
     pub samples: [i16; SAMPLES],
+}
+
+/// The samples that a room of two bytes each holds.
+fn samples(room: &[u8]) -> [i16; SAMPLES] {
+    let mut samples = [0; SAMPLES];
+    for (sample, bytes) in samples.iter_mut().zip(room.chunks_exact(2)) {
+        *sample = i16::from_le_bytes([bytes[0], bytes[1]]);
+    }
+    samples
 }
 
 /// A call that is being decoded: a table set, and the image of the decoder's state.
@@ -203,11 +214,38 @@ impl<'t> Decoder<'t> {
         let mark = self.mark();
         let mut room = [0; 2 * SAMPLES];
         answered(ffi::decode(self.tables, &mut self.image, frame, &mut room))?;
-        let mut samples = [0; SAMPLES];
-        for (sample, bytes) in samples.iter_mut().zip(room.chunks_exact(2)) {
-            *sample = i16::from_le_bytes([bytes[0], bytes[1]]);
-        }
-        Ok(Decoded { mark, samples })
+        Ok(Decoded { mark, samples: samples(&room) })
+    }
+
+    /// Decodes 1 to [`MOST_FRAMES`] frames that are laid end to end: each is answered as [`Decoder::decode`] would, one after the other, and the decoder is then
+    /// where those calls would have left it. Tables and image are looked through once, so this is a little faster.
+    ///
+    /// Where there are not 1 to 64 whole frames nothing is decoded, and that counts as a loss.
+    ///
+    /// ```
+    /// # use drolkhise::{Decoder, Refusal, Tables, FRAME};
+    /// # let file = std::fs::read(concat!(env!("CARGO_MANIFEST_DIR"), "/../../demo/tables.bin")).unwrap();
+    /// # let tables = Tables::new(&file)?;
+    /// let mut call = Decoder::reset(&tables);
+    /// let mut frames = [0; 3 * FRAME];
+    /// frames[2 * FRAME - 1] = 0x40; // a padding bit of the second
+    /// let heard = call.decode_frames(&frames)?;
+    /// assert_eq!(heard[0].as_ref().map(|first| first.mark), Ok(2));
+    /// assert_eq!(heard[1], Err(Refusal::Padding));
+    /// assert_eq!(heard[2].as_ref().map(|third| third.mark), Ok(0));
+    /// # Ok::<(), Refusal>(())
+    /// ```
+    pub fn decode_frames(&mut self, frames: &[u8]) -> Result<Vec<Result<Decoded, Refusal>>, Refusal> {
+        let count = (frames.len() / FRAME).min(MOST_FRAMES); // more are refused, and need no room
+        let (mut room, mut numbers) = (vec![0; 2 * SAMPLES * count], vec![0; count]);
+        let mut mark = self.mark();
+        answered(ffi::decode_frames(self.tables, &mut self.image, frames, &mut room, &mut numbers))?;
+        let heard = numbers.iter().zip(room.chunks_exact(2 * SAMPLES)).map(|(&number, room)| {
+            let heard = answered(number).map(|()| Decoded { mark, samples: samples(room) });
+            mark = if heard.is_ok() { 2.min(mark + 1) } else { 0 };
+            heard
+        });
+        Ok(heard.collect())
     }
 
     /// Tells that a frame of the call did not arrive, or several together: the mark falls to 0.

@@ -1,5 +1,5 @@
 //! The crate beside the program `decode` on the demo's calls, the C header's words and numbers, and everything that is refused.
-use drolkhise::{Decoder, Refusal, Tables, FRAME, IMAGE, SAMPLES, TABLES};
+use drolkhise::{Decoder, Refusal, Tables, FRAME, IMAGE, MOST_FRAMES, SAMPLES, TABLES};
 use std::fs::{self, File};
 use std::path::{Path, PathBuf};
 use std::process::Command;
@@ -115,6 +115,41 @@ fn a_refused_frame_changes_the_last_two_bytes_alone() {
 }
 
 #[test]
+fn frames_in_one_call_are_their_single_calls() {
+    let tables = tables();
+    for call in CALLS {
+        let (start, lines) = begun(&tables, call);
+        let frames: Vec<u8> = lines.iter().filter_map(|line| frame(line)).flatten().collect();
+        for count in (1..=MOST_FRAMES).filter(|count| call == "damaged" || [1, 7, MOST_FRAMES].contains(count)) {
+            let (mut together, mut single) = (start.clone(), start.clone());
+            for some in frames.chunks(count * FRAME) {
+                let wanted: Vec<_> = some.chunks_exact(FRAME).map(|one| single.decode(one)).collect();
+                assert!(together.decode_frames(some).unwrap() == wanted, "demo/{call}.hex, {count} frames a call");
+                assert_eq!(together, single);
+            }
+        }
+    }
+}
+
+#[test]
+fn other_numbers_of_frames_are_refused() {
+    let tables = tables();
+    let start = Decoder::reset(&tables);
+    let most = MOST_FRAMES * FRAME;
+    let whole = |n: usize| n > 0 && n <= most && n % FRAME == 0;
+    for length in (0..=2 * most + FRAME).chain([1 << 20]) {
+        let mut call = start.clone();
+        let answered = call.decode_frames(&vec![0; length]);
+        if whole(length) {
+            assert_eq!(answered.unwrap().len(), length / FRAME);
+        } else {
+            assert_eq!(answered, Err(Refusal::FrameLength), "{length} bytes");
+            assert_eq!((call.mark(), &call.image()[..IMAGE - 1]), (0, &start.image()[..IMAGE - 1]));
+        }
+    }
+}
+
+#[test]
 fn tables_of_another_length_or_against_a_rule_are_refused() {
     let file = file();
     let longer: Vec<u8> = file.iter().copied().chain([0; 40]).collect();
@@ -167,6 +202,7 @@ fn numbers_words_and_lengths_are_the_headers() {
         line.split(" = ").nth(1).unwrap().split(|c: char| !c.is_ascii_digit()).next().unwrap().parse().unwrap()
     };
     assert_eq!([TABLES, IMAGE, FRAME, 2 * SAMPLES], ["TABLES", "IMAGE", "PAYLOAD", "SAMPLES"].map(|name| value(&format!("DROLKHISE_{name}"))));
+    assert!(header.contains(&format!("DROLKHISE_MOST_FRAMES = {MOST_FRAMES} ")));
     let refusals = [
         (Refusal::TablesLength, "TABLES_LENGTH"),
         (Refusal::FrameLength, "PAYLOAD_LENGTH"),
@@ -202,7 +238,8 @@ fn threads_decode_at_once() {
 
 #[test]
 fn the_example_plays_from_any_frame() {
-    let tests = std::env::current_exe().unwrap();
+    // not `current_exe`, which by an emulator is the loader
+    let tests = PathBuf::from(std::env::args_os().next().unwrap());
     let player = tests.parent().unwrap().parent().unwrap().join("examples/player");
     assert!(player.exists(), "the example is not built: `cargo test` builds it, `cargo test --test demo` alone does not");
     let room = Path::new(env!("CARGO_TARGET_TMPDIR"));
@@ -213,7 +250,8 @@ fn the_example_plays_from_any_frame() {
         let whole = fs::read(&whole).unwrap();
         let frames = (whole.len() - 44) / (2 * SAMPLES);
         for first in [0, 1, 24, 25, 26, 62, frames - 1, frames, frames + 30] {
-            said(Command::new(&player).args([&root().join("demo/tables.bin"), &recording, &part]).arg(first.to_string()));
+            // by tools/launch, since a machine that is not x86-64 runs it by an emulator
+            said(Command::new(root().join("tools/launch")).arg(&player).args([&root().join("demo/tables.bin"), &recording, &part]).arg(first.to_string()));
             let part = fs::read(&part).unwrap();
             assert!(part[44..] == whole[44 + 2 * SAMPLES * first.min(frames)..], "demo/{call}.hex from frame {first}");
             if first == 0 {
