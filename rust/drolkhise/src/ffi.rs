@@ -32,6 +32,44 @@ extern "C" {
         numbers_length: usize,
     ) -> u8;
     fn drolkhise_missed_frame(image: *mut u8, image_length: usize) -> u8;
+    #[rustfmt::skip]
+    fn drolkhise_shelf_save(
+        records: *mut u8,
+        records_length: usize,
+        images: *mut u8,
+        images_length: usize,
+        image: *const u8,
+        image_length: usize,
+        frame: u32,
+        slot: *mut u8,
+        slot_length: usize,
+    ) -> u8;
+    fn drolkhise_shelf_hold(records: *mut u8, records_length: usize, images: *const u8, images_length: usize, slot: u32) -> u8;
+    fn drolkhise_shelf_let_go(records: *mut u8, records_length: usize, images: *const u8, images_length: usize, slot: u32) -> u8;
+    #[rustfmt::skip]
+    fn drolkhise_shelf_fetch(
+        records: *const u8,
+        records_length: usize,
+        images: *const u8,
+        images_length: usize,
+        slot: u32,
+        image: *mut u8,
+        image_length: usize,
+    ) -> u8;
+    #[rustfmt::skip]
+    fn drolkhise_seek(
+        tables: *const u8,
+        tables_length: usize,
+        records: *const u8,
+        records_length: usize,
+        images: *const u8,
+        images_length: usize,
+        recording: *const u8,
+        recording_length: usize,
+        frame: u32,
+        image: *mut u8,
+        image_length: usize,
+    ) -> u8;
 }
 
 pub fn reset(tables: &[u8], image: &mut [u8]) -> u8 {
@@ -73,4 +111,58 @@ pub fn decode_frames(tables: &[u8], image: &mut [u8], payloads: &[u8], samples: 
 pub fn missed_frame(image: &mut [u8]) -> u8 {
     // SAFETY: writes `image`, a pointer with its own slice's length.
     unsafe { drolkhise_missed_frame(image.as_mut_ptr(), image.len()) }
+}
+
+pub fn shelf_save(records: &mut [u8], images: &mut [u8], image: &[u8], frame: u32, slot: &mut [u8]) -> u8 {
+    // SAFETY: reads `image`, writes `records`, `images` and `slot`, reading the first two before: each pointer with its own slice's length. The three that
+    // are written overlap nothing.
+    unsafe {
+        drolkhise_shelf_save(
+            records.as_mut_ptr(),
+            records.len(),
+            images.as_mut_ptr(),
+            images.len(),
+            image.as_ptr(),
+            image.len(),
+            frame,
+            slot.as_mut_ptr(),
+            slot.len(),
+        )
+    }
+}
+
+pub fn shelf_hold(records: &mut [u8], images: &[u8], slot: u32) -> u8 {
+    // SAFETY: writes `records`, and of `images` looks at the length alone: each pointer with its own slice's length, and the two do not overlap. Any number
+    // may be a slot's.
+    unsafe { drolkhise_shelf_hold(records.as_mut_ptr(), records.len(), images.as_ptr(), images.len(), slot) }
+}
+
+pub fn shelf_let_go(records: &mut [u8], images: &[u8], slot: u32) -> u8 {
+    // SAFETY: as for `shelf_hold`.
+    unsafe { drolkhise_shelf_let_go(records.as_mut_ptr(), records.len(), images.as_ptr(), images.len(), slot) }
+}
+
+pub fn shelf_fetch(records: &[u8], images: &[u8], slot: u32, image: &mut [u8]) -> u8 {
+    // SAFETY: reads `records` and `images`, writes `image`: each pointer with its own slice's length. What is written overlaps nothing.
+    unsafe { drolkhise_shelf_fetch(records.as_ptr(), records.len(), images.as_ptr(), images.len(), slot, image.as_mut_ptr(), image.len()) }
+}
+
+pub fn seek(tables: &[u8], records: &[u8], images: &[u8], recording: &[u8], frame: u32, image: &mut [u8]) -> u8 {
+    // SAFETY: reads `tables`, `records`, `images` and `recording`, writes `image`: each pointer with its own slice's length. What is written overlaps
+    // nothing; of what is only read some might be one, which nothing can tell.
+    unsafe {
+        drolkhise_seek(
+            tables.as_ptr(),
+            tables.len(),
+            records.as_ptr(),
+            records.len(),
+            images.as_ptr(),
+            images.len(),
+            recording.as_ptr(),
+            recording.len(),
+            frame,
+            image.as_mut_ptr(),
+            image.len(),
+        )
+    }
 }

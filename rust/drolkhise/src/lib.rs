@@ -37,6 +37,27 @@
 //! };
 //! call.mark();
 //! ```
+//!
+//! # To go back in a call
+//!
+//! A [`Shelf`] keeps up to sixteen decoders as they stood before some frame. What is kept there is had by a handle, a [`Saved`], and stays as it is until the
+//! last handle of it is gone; [`Shelf::seek`] enters a recording at any frame from the nearest one.
+//!
+//! ```
+//! # use drolkhise::{Decoder, Shelf, Tables};
+//! # let demo = concat!(env!("CARGO_MANIFEST_DIR"), "/../../demo/");
+//! # let file = std::fs::read(format!("{demo}tables.bin")).unwrap();
+//! let tables = Tables::new(&file)?;
+//! let recording = std::fs::read(format!("{demo}call.hex")).unwrap();
+//! let shelf = Shelf::new();
+//! let start = shelf.save(&Decoder::reset(&tables), 0)?; // its first line is `+`: it was heard from its start
+//! let before_40 = shelf.seek(&tables, &recording, 40)?;
+//! let saved = shelf.save(&before_40, 40)?; // so a later seek to 50 decodes ten frames, and not fifty
+//! let before_50 = shelf.seek(&tables, &recording, 50)?;
+//! assert_eq!(saved.fetch()?, before_40);
+//! # assert_eq!((start.frame(), before_50.mark()), (0, 2));
+//! # Ok::<(), drolkhise::Refusal>(())
+//! ```
 #![deny(unsafe_code)]
 #![warn(missing_docs)]
 
@@ -45,6 +66,7 @@ mod ffi;
 
 use std::error::Error;
 use std::fmt;
+use std::sync::{Mutex, MutexGuard, PoisonError};
 
 /// The length of a table file, in bytes.
 pub const TABLES: usize = 15834;
@@ -56,6 +78,10 @@ pub const FRAME: usize = 20;
 pub const SAMPLES: usize = 320;
 /// How many frames one call of [`Decoder::decode_frames`] may have.
 pub const MOST_FRAMES: usize = 64;
+/// How many decoders a [`Shelf`] has room for.
+pub const SLOTS: usize = 16;
+/// How many handles one of them may have.
+pub const MOST_HANDLES: usize = 255;
 
 /// Why something was refused. [`Refusal::number`] is the number that the C header and the programs have for it.
 #[derive(Clone, Copy, Debug, PartialEq, Eq, Hash)]
@@ -75,6 +101,14 @@ pub enum Refusal {
     CodeIndex,
     /// The image is not [`IMAGE`] bytes long.
     ImageLength,
+    /// The shelf's bytes are of another length: none that a [`Shelf`] has.
+    ShelfLength,
+    /// There is no such slot on the shelf, or it has no users: none that a [`Saved`] has.
+    NoSlot,
+    /// No slot of the shelf is free, or this one has [`MOST_HANDLES`] handles.
+    SlotFull,
+    /// No save is at or below the frame that is sought, or the recording has no such frame.
+    NoFrame,
 }
 
 impl Refusal {
@@ -88,6 +122,10 @@ impl Refusal {
             Refusal::Padding => 6,
             Refusal::CodeIndex => 7,
             Refusal::ImageLength => 11,
+            Refusal::ShelfLength => 12,
+            Refusal::NoSlot => 13,
+            Refusal::SlotFull => 14,
+            Refusal::NoFrame => 15,
         }
     }
 }
@@ -102,6 +140,10 @@ impl fmt::Display for Refusal {
             Refusal::Padding => "a padding bit of the frame is set",
             Refusal::CodeIndex => "a code index of the frame has no position",
             Refusal::ImageLength => "the image is not 526 bytes long",
+            Refusal::ShelfLength => "the shelf's records or images, or the room for a slot, are of another length",
+            Refusal::NoSlot => "there is no such slot, or it has no users",
+            Refusal::SlotFull => "no slot is free, or the slot has 255 users",
+            Refusal::NoFrame => "no save is at or below the frame, or the recording has no such frame",
         })
     }
 }
@@ -119,6 +161,10 @@ fn answered(number: u8) -> Result<(), Refusal> {
         6 => Refusal::Padding,
         7 => Refusal::CodeIndex,
         11 => Refusal::ImageLength,
+        12 => Refusal::ShelfLength,
+        13 => Refusal::NoSlot,
+        14 => Refusal::SlotFull,
+        15 => Refusal::NoFrame,
         // 2, a wrong room for samples, is none that this crate lends
         _ => unreachable!("the archive answered {number}: it is not the one that this crate was written for"),
     })
@@ -258,5 +304,173 @@ impl<'t> Decoder<'t> {
 impl fmt::Debug for Decoder<'_> {
     fn fmt(&self, f: &mut fmt::Formatter<'_>) -> fmt::Result {
         f.debug_struct("Decoder").field("mark", &self.mark()).finish_non_exhaustive()
+    }
+}
+
+/// Up to [`SLOTS`] decoders, each as it stood before some frame: to go back in a call, or to let several listeners stand at different frames of it.
+///
+/// What is saved has a handle, a [`Saved`], and is kept until its last handle is dropped; its room is then used again. Threads may share a shelf.
+///
+/// A handle borrows its shelf, and whoever uses it borrows the handle or has one of its own ([`Saved::hold`]). So nothing can be let go that is still to be used:
+///
+/// ```
+/// # use drolkhise::{Decoder, Refusal, Saved, Shelf, Tables};
+/// # let file = std::fs::read(concat!(env!("CARGO_MANIFEST_DIR"), "/../../demo/tables.bin")).unwrap();
+/// # let tables = Tables::new(&file)?;
+/// struct Player<'p> {
+///     from: Saved<'p, 'p>,
+/// }
+/// let shelf = Shelf::new();
+/// let saved = shelf.save(&Decoder::reset(&tables), 0)?;
+/// let player = Player { from: saved.hold()? };
+/// drop(saved);
+/// player.from.fetch()?; // what was saved
+/// # Ok::<(), Refusal>(())
+/// ```
+///
+/// Here it would be: the player only points at what it plays from. That does not compile.
+///
+/// ```compile_fail,E0505
+/// # use drolkhise::{Decoder, Refusal, Saved, Shelf, Tables};
+/// # let file = std::fs::read(concat!(env!("CARGO_MANIFEST_DIR"), "/../../demo/tables.bin")).unwrap();
+/// # let tables = Tables::new(&file)?;
+/// struct Player<'p> {
+///     from: &'p Saved<'p, 'p>,
+/// }
+/// let shelf = Shelf::new();
+/// let saved = shelf.save(&Decoder::reset(&tables), 0)?;
+/// let player = Player { from: &saved };
+/// drop(saved);
+/// player.from.fetch()?; // another's, if a save had come between
+/// # Ok::<(), Refusal>(())
+/// ```
+///
+/// Nor do a handle that is let go twice, and one that outlives its shelf:
+///
+/// ```compile_fail,E0382
+/// # use drolkhise::{Decoder, Refusal, Shelf, Tables};
+/// # let file = std::fs::read(concat!(env!("CARGO_MANIFEST_DIR"), "/../../demo/tables.bin")).unwrap();
+/// # let tables = Tables::new(&file)?;
+/// # let shelf = Shelf::new();
+/// let saved = shelf.save(&Decoder::reset(&tables), 0)?;
+/// drop(saved);
+/// drop(saved);
+/// # Ok::<(), Refusal>(())
+/// ```
+///
+/// ```compile_fail,E0505
+/// # use drolkhise::{Decoder, Refusal, Shelf, Tables};
+/// # let file = std::fs::read(concat!(env!("CARGO_MANIFEST_DIR"), "/../../demo/tables.bin")).unwrap();
+/// # let tables = Tables::new(&file)?;
+/// # let shelf = Shelf::new();
+/// let saved = shelf.save(&Decoder::reset(&tables), 0)?;
+/// drop(shelf);
+/// saved.fetch()?;
+/// # Ok::<(), Refusal>(())
+/// ```
+pub struct Shelf(Mutex<Room>);
+
+/// The bytes that the archive's shelf is lent.
+struct Room {
+    records: [u8; 5 * SLOTS],
+    images: Box<[u8]>,
+}
+
+impl Shelf {
+    /// An empty shelf.
+    pub fn new() -> Shelf {
+        Shelf(Mutex::new(Room { records: [0; 5 * SLOTS], images: vec![0; SLOTS * IMAGE].into() }))
+    }
+
+    fn room(&self) -> MutexGuard<'_, Room> {
+        // no thread panics between two writes to the room, so what one left that panicked is a shelf
+        self.0.lock().unwrap_or_else(PoisonError::into_inner)
+    }
+
+    /// Keeps a decoder as it stands, before the frame of this number. Refused with [`Refusal::SlotFull`] where [`SLOTS`] are kept already.
+    pub fn save<'t>(&self, decoder: &Decoder<'t>, frame: u32) -> Result<Saved<'_, 't>, Refusal> {
+        let mut slot = [0];
+        let mut room = self.room();
+        let Room { records, images } = &mut *room;
+        answered(ffi::shelf_save(records, images, &decoder.image, frame, &mut slot))?;
+        Ok(Saved { shelf: self, tables: decoder.tables, slot: slot[0].into(), frame })
+    }
+
+    /// The decoder that is to decode a frame of a recording: from what is saved for the largest number not above the frame's, forward over the lines between,
+    /// missed and refused ones too.
+    ///
+    /// The recording is its text; its frames are its lines, from 0, a first line `+` not counted. If each decoder on the shelf stood before the frame of its
+    /// number in this recording, under these tables, it is the one that playing from the start gives. Refused with [`Refusal::NoFrame`] where nothing is saved
+    /// at or below the frame, or the recording has no such frame.
+    pub fn seek<'t>(&self, tables: &'t Tables, recording: &[u8], frame: u32) -> Result<Decoder<'t>, Refusal> {
+        let mut image = [0; IMAGE];
+        // copies, so that other threads need not wait while lines are decoded
+        let (records, images) = {
+            let room = self.room();
+            (room.records, room.images.clone())
+        };
+        answered(ffi::seek(&tables.0, &records, &images, recording, frame, &mut image))?;
+        Ok(Decoder { tables: &tables.0, image })
+    }
+}
+
+impl Default for Shelf {
+    fn default() -> Shelf {
+        Shelf::new()
+    }
+}
+
+impl fmt::Debug for Shelf {
+    fn fmt(&self, f: &mut fmt::Formatter<'_>) -> fmt::Result {
+        f.write_str("Shelf(..)")
+    }
+}
+
+/// A handle of a decoder on a [`Shelf`]. Dropped, it lets go of it.
+#[must_use = "what is saved is let go of when its handle is dropped"]
+pub struct Saved<'s, 't> {
+    shelf: &'s Shelf,
+    tables: &'t [u8],
+    slot: u32,
+    frame: u32,
+}
+
+impl<'s, 't> Saved<'s, 't> {
+    /// The number of the frame that it was saved before.
+    pub fn frame(&self) -> u32 {
+        self.frame
+    }
+
+    /// The decoder as it was saved. It is a copy: what it decodes changes nothing on the shelf.
+    ///
+    /// A handle's slot has users and holds what was saved there, so no handle of this crate is refused; the answer is the archive's all the same.
+    pub fn fetch(&self) -> Result<Decoder<'t>, Refusal> {
+        let mut image = [0; IMAGE];
+        let room = self.shelf.room();
+        answered(ffi::shelf_fetch(&room.records, &room.images, self.slot, &mut image))?;
+        Ok(Decoder { tables: self.tables, image })
+    }
+
+    /// One more handle of the same. It is not `Clone`, which cannot refuse: the [`MOST_HANDLES`] that there may be are kept to by [`Refusal::SlotFull`].
+    pub fn hold(&self) -> Result<Saved<'s, 't>, Refusal> {
+        let mut room = self.shelf.room();
+        let Room { records, images } = &mut *room;
+        answered(ffi::shelf_hold(records, images, self.slot))?;
+        Ok(Saved { shelf: self.shelf, tables: self.tables, slot: self.slot, frame: self.frame })
+    }
+}
+
+impl Drop for Saved<'_, '_> {
+    fn drop(&mut self) {
+        let mut room = self.shelf.room();
+        let Room { records, images } = &mut *room;
+        let number = ffi::shelf_let_go(records, images, self.slot);
+        debug_assert_eq!(number, 0, "a handle's slot has users");
+    }
+}
+
+impl fmt::Debug for Saved<'_, '_> {
+    fn fmt(&self, f: &mut fmt::Formatter<'_>) -> fmt::Result {
+        f.debug_struct("Saved").field("frame", &self.frame).finish_non_exhaustive()
     }
 }

@@ -1,5 +1,5 @@
 //! The crate beside the program `decode` on the demo's calls, the C header's words and numbers, and everything that is refused.
-use drolkhise::{Decoder, Refusal, Tables, FRAME, IMAGE, MOST_FRAMES, SAMPLES, TABLES};
+use drolkhise::{Decoder, Refusal, Saved, Shelf, Tables, FRAME, IMAGE, MOST_FRAMES, MOST_HANDLES, SAMPLES, SLOTS, TABLES};
 use std::fs::{self, File};
 use std::path::{Path, PathBuf};
 use std::process::Command;
@@ -144,7 +144,7 @@ fn other_numbers_of_frames_are_refused() {
             assert_eq!(answered.unwrap().len(), length / FRAME);
         } else {
             assert_eq!(answered, Err(Refusal::FrameLength), "{length} bytes");
-            assert_eq!((call.mark(), &call.image()[..IMAGE - 1]), (0, &start.image()[..IMAGE - 1]));
+            assert_eq!((&call.image()[..IMAGE - 2], &call.image()[IMAGE - 2..]), (&start.image()[..IMAGE - 2], &[0, 0][..]));
         }
     }
 }
@@ -203,6 +203,8 @@ fn numbers_words_and_lengths_are_the_headers() {
     };
     assert_eq!([TABLES, IMAGE, FRAME, 2 * SAMPLES], ["TABLES", "IMAGE", "PAYLOAD", "SAMPLES"].map(|name| value(&format!("DROLKHISE_{name}"))));
     assert!(header.contains(&format!("DROLKHISE_MOST_FRAMES = {MOST_FRAMES} ")));
+    assert!(header.contains(&format!("DROLKHISE_SHELF = {SLOTS} * DROLKHISE_IMAGE ")));
+    assert_eq!(value("DROLKHISE_RECORDS"), 5 * SLOTS);
     let refusals = [
         (Refusal::TablesLength, "TABLES_LENGTH"),
         (Refusal::FrameLength, "PAYLOAD_LENGTH"),
@@ -211,6 +213,10 @@ fn numbers_words_and_lengths_are_the_headers() {
         (Refusal::Padding, "PADDING"),
         (Refusal::CodeIndex, "CODE_INDEX"),
         (Refusal::ImageLength, "IMAGE_LENGTH"),
+        (Refusal::ShelfLength, "SHELF_LENGTH"),
+        (Refusal::NoSlot, "NO_SLOT"),
+        (Refusal::SlotFull, "SLOT_FULL"),
+        (Refusal::NoFrame, "NO_FRAME"),
     ];
     for (refusal, name) in refusals {
         assert_eq!(refusal.number() as usize, value(&format!("DROLKHISE_{name}")), "{name}");
@@ -219,6 +225,149 @@ fn numbers_words_and_lengths_are_the_headers() {
     }
     // one more stands there, 2, for a room that this crate lends itself
     assert_eq!(header.matches(": return \"").count() - 2, refusals.len() + 1);
+}
+
+/// A call's decoder before each of its frames.
+fn played<'t>(tables: &'t Tables, call: &str) -> Vec<Decoder<'t>> {
+    let (start, lines) = begun(tables, call);
+    lines.iter().scan(start, |call, line| Some((call.clone(), text(call, line)).0)).collect()
+}
+
+/// How many more decoders a shelf takes.
+fn free(shelf: &Shelf, call: &Decoder) -> usize {
+    let saves: Vec<_> = (0..).map_while(|k| shelf.save(call, k).ok()).collect();
+    assert_eq!(shelf.save(call, 0).unwrap_err(), Refusal::SlotFull);
+    saves.len()
+}
+
+/// April's sequence: a saved state was let go of while a player still pointed at it, another was saved in its place, and the player went on from that one.
+/// Pointing at it does not compile (`Shelf`'s examples); with a handle of its own the player has what was saved.
+#[test]
+fn what_a_player_holds_is_kept() {
+    let tables = tables();
+    let played = played(&tables, "call");
+    let shelf = Shelf::new();
+    let saved = shelf.save(&played[60], 60).unwrap();
+    let player = saved.hold().unwrap();
+    drop(saved);
+    let others: Vec<Saved> = (61..61 + SLOTS - 1).map(|k| shelf.save(&played[k], k as u32).unwrap()).collect();
+    assert_eq!(shelf.save(&played[0], 0).unwrap_err(), Refusal::SlotFull);
+    assert_eq!((player.frame(), player.fetch().unwrap()), (60, played[60].clone()));
+    drop(player);
+    let next = shelf.save(&played[100], 100).unwrap();
+    assert_eq!((next.frame(), next.fetch().unwrap()), (100, played[100].clone()));
+    for (k, other) in (61..).zip(&others) {
+        assert_eq!((other.frame() as usize, other.fetch().unwrap()), (k, played[k].clone()));
+    }
+}
+
+#[test]
+fn what_is_fetched_is_a_copy() {
+    let tables = tables();
+    let (start, lines) = begun(&tables, "call");
+    let shelf = Shelf::new();
+    let saved = shelf.save(&start, 0).unwrap();
+    let run = |mut call: Decoder| lines.iter().map(|line| text(&mut call, line)).collect::<String>();
+    assert!(run(saved.fetch().unwrap()) == run(start.clone()));
+    assert_eq!(saved.fetch().unwrap(), start);
+}
+
+#[test]
+fn a_slot_has_255_handles_and_a_shelf_16_slots() {
+    let tables = tables();
+    let call = Decoder::reset(&tables);
+    let shelf = Shelf::new();
+    assert_eq!(free(&shelf, &call), SLOTS);
+    let first = shelf.save(&call, u32::MAX).unwrap();
+    let mut handles: Vec<Saved> = (1..MOST_HANDLES).map(|_| first.hold().unwrap()).collect();
+    handles.push(first);
+    assert_eq!(handles.len(), MOST_HANDLES);
+    for handle in [&handles[0], &handles[MOST_HANDLES - 1]] {
+        assert_eq!(handle.hold().unwrap_err(), Refusal::SlotFull);
+    }
+    handles.pop();
+    handles.push(handles[7].hold().unwrap());
+    assert_eq!(handles[7].hold().unwrap_err(), Refusal::SlotFull);
+    while let Some(handle) = handles.pop() {
+        assert_eq!((handle.frame(), handle.fetch().unwrap()), (u32::MAX, call.clone()));
+        assert_eq!(free(&shelf, &call), SLOTS - 1);
+    }
+    assert_eq!(free(&shelf, &call), SLOTS);
+}
+
+#[test]
+fn a_seek_finds_what_playing_gives() {
+    let tables = tables();
+    for call in CALLS {
+        let played = played(&tables, call);
+        let recording = fs::read(root().join(format!("demo/{call}.hex"))).unwrap();
+        // no save at 0; all at one place; spread, in an order of their own, past the last frame too
+        for places in [vec![], vec![0], vec![30], vec![62, 62, 61], (0..SLOTS).map(|k| k * 59 % played.len()).collect(), vec![0, played.len() - 1]] {
+            let shelf = Shelf::new();
+            let saves: Vec<Saved> = places.iter().map(|&k| shelf.save(&played[k], k as u32).unwrap()).collect();
+            let past = shelf.save(&played[0], u32::MAX); // none where sixteen are saved
+            for (k, decoder) in played.iter().enumerate() {
+                let wanted = if places.iter().any(|&place| place <= k) { Ok(decoder.clone()) } else { Err(Refusal::NoFrame) };
+                assert!(shelf.seek(&tables, &recording, k as u32) == wanted, "demo/{call}.hex, frame {k}, saves at {places:?}");
+            }
+            for k in [played.len() as u32, played.len() as u32 + 1, u32::MAX] {
+                assert_eq!(shelf.seek(&tables, &recording, k).unwrap_err(), Refusal::NoFrame);
+            }
+            for (save, &k) in saves.iter().zip(&places) {
+                assert_eq!(save.fetch().unwrap(), played[k], "a seek changes nothing on the shelf");
+            }
+            assert_eq!(past.is_err(), places.len() == SLOTS);
+            drop(saves);
+            assert_eq!(shelf.seek(&tables, &recording, 70).unwrap_err(), Refusal::NoFrame);
+        }
+    }
+}
+
+#[test]
+fn threads_share_a_shelf() {
+    fn shared<T: Send + Sync>(_: &T) {}
+    let tables = tables();
+    let played = played(&tables, "call");
+    let recording = fs::read(root().join("demo/call.hex")).unwrap();
+    let shelf = Shelf::new();
+    shared(&shelf);
+    let start = shelf.save(&played[0], 0).unwrap();
+    shared(&start);
+    std::thread::scope(|s| {
+        for thread in 0..3 {
+            let (shelf, played, recording, tables, start) = (&shelf, &played, &recording, &tables, &start);
+            s.spawn(move || {
+                for n in 0..40 {
+                    let k = 1 + (37 * n + 11 * thread) % 80;
+                    // three threads have at most three saves each, beside the start
+                    let saves = [k, k + 20, k + 40].map(|k| (k, shelf.save(&played[k], k as u32).unwrap()));
+                    let held = saves.each_ref().map(|(k, saved)| (*k, saved.hold().unwrap()));
+                    drop(saves);
+                    assert_eq!(shelf.seek(tables, recording, k as u32 + 41).unwrap(), played[k + 41]);
+                    held.iter().for_each(|(k, saved)| assert_eq!(saved.fetch().unwrap(), played[*k]));
+                    assert_eq!(start.hold().unwrap().fetch().unwrap(), played[0]);
+                }
+            });
+        }
+    });
+    assert_eq!(free(&shelf, &played[0]), SLOTS - 1);
+}
+
+/// A handle that is dropped while its thread panics lets go, and the shelf serves on.
+#[test]
+fn a_panic_leaves_a_shelf() {
+    let tables = tables();
+    let call = Decoder::reset(&tables);
+    let shelf = Shelf::new();
+    let panicked = std::thread::scope(|s| {
+        s.spawn(|| {
+            let _saved = shelf.save(&call, 3).unwrap();
+            panic!("meant");
+        })
+        .join()
+    });
+    assert!(panicked.is_err());
+    assert_eq!(free(&shelf, &call), SLOTS);
 }
 
 #[test]
