@@ -82,7 +82,7 @@ function hear(k) {
 function state() {
   byId("play").textContent = sound.paused ? "Play" : "Pause";
   byId("said").className = "hidden";
-  const whose = data.length > 1 ? `Channel ${data[heard].name}: ` : "";
+  const whose = data[heard].whose && `${data[heard].whose}: `;
   byId("said").textContent = `${whose}${sound.paused ? "Stopped at" : "Playing from"} ${seconds(sound.currentTime)}`;
   turn();
 }

@@ -17,12 +17,12 @@ def tables_why(tables, number, *named):
     return subprocess.run([which_rule, tables, *named], stdout=subprocess.PIPE, check=True).stdout.decode().strip()
 
 
-def told(program, tables, recording):
-    """What a program writes of a recording, line by line. It takes its tables from the folder where it is run."""
+def told(program, tables, given, *words):
+    """What a program writes of a file, line by line. It takes its tables from the folder where it is run."""
     launch = os.path.join(TOOLS, "launch")
-    with tempfile.TemporaryDirectory() as room, open(recording, "rb") as f:
+    with tempfile.TemporaryDirectory() as room, open(given, "rb") as f:
         os.symlink(os.path.abspath(tables), os.path.join(room, "tables.bin"))
-        with subprocess.Popen([launch, program], stdin=f, stdout=subprocess.PIPE, cwd=room) as ran:
+        with subprocess.Popen([launch, program, *words], stdin=f, stdout=subprocess.PIPE, cwd=room) as ran:
             for line in ran.stdout:
                 yield line.decode().removesuffix("\n")
     if ran.returncode != 0:
@@ -41,11 +41,15 @@ def share(letter, lines):
     return b"".join((b"-" if rest == b"+" else rest) + b"\n" for rest in rests)
 
 
+def there(path, what):
+    if not os.path.exists(path):
+        sys.exit(f"{NAME}: no file {path}, {what}")
+
+
 def decoded(program, tables, recording):
     """What decode, or two_channels, writes of a recording."""
-    for path, what in (tables, "the table file"), (recording, "the recording"):
-        if not os.path.exists(path):
-            sys.exit(f"{NAME}: no file {path}, {what}")
+    there(tables, "the table file")
+    there(recording, "the recording")
     lines = list(told(program, tables, recording))
     if lines and lines[0].startswith("tables refused"):
         sys.exit(f"{NAME}: {tables}: {lines[0]}: {tables_why(tables, *lines[0].split(' ')[2:])}")
