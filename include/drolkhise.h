@@ -21,8 +21,10 @@ extern "C" {
 enum drolkhise_length {
     DROLKHISE_TABLES = 15834, /* the table file: 5,963 words of 16 bits, low byte first, then 3,908 bytes; only read */
     DROLKHISE_IMAGE = 526,    /* the image: all that the decoder carries from one frame of a call to the next; read and written */
-    DROLKHISE_PAYLOAD = 20,   /* a frame; only read */
+    DROLKHISE_PAYLOAD = 20,   /* a frame; only read, but by drolkhise_pack written */
     DROLKHISE_SAMPLES = 640,  /* room for 320 samples of 16 bits with a sign, low byte first; only written */
+    DROLKHISE_TOLD = 5,       /* room for what is told of tables that break a set rule; only written */
+    DROLKHISE_FIELDS = 48,    /* the 24 fields of a frame, each a number of 16 bits without a sign, low byte first */
     DROLKHISE_RECORDS = 80,   /* the shelf's sixteen slot records, of 5 bytes each; read and written */
     DROLKHISE_SHELF = 16 * DROLKHISE_IMAGE /* the shelf's images, one for each slot; read and written */
 };
@@ -45,12 +47,14 @@ enum drolkhise_refusal {
     DROLKHISE_SLOT_FULL = 14,     /* no slot is free for a save, or the slot to be held has 255 users */
     DROLKHISE_NO_FRAME = 15,      /* no save is held at or below the frame that is sought, or the recording has no such frame */
     DROLKHISE_TABLES_LENGTH = 1,  /* the tables are not 15,834 bytes long */
-    DROLKHISE_SAMPLES_LENGTH = 2, /* the room for samples is not 640 bytes long, of several frames that for samples or for numbers not as long as they ask */
+    DROLKHISE_SAMPLES_LENGTH = 2, /* the room for samples is not 640 bytes long, of several frames that for samples or for numbers not as long as they ask;
+                                   * the room for what is told is not 5 bytes long; the fields, or the room for them, are not 48 */
     DROLKHISE_PAYLOAD_LENGTH = 3, /* the frame is not 20 bytes long, or several are not 1 to 64 frames */
     DROLKHISE_TABLES_RULE = 4,    /* the tables break a set rule */
     DROLKHISE_IMAGE_RULE = 5,     /* the image is no decoder's: one of its floats is no number within 131,072, or one of its last two bytes is above 2 */
     DROLKHISE_PADDING = 6,        /* a padding bit of the frame is set: one of the two highest of its last byte */
-    DROLKHISE_CODE_INDEX = 7      /* a code index of the frame has no position under these tables */
+    DROLKHISE_CODE_INDEX = 7,     /* a code index of the frame has no position under these tables */
+    DROLKHISE_FIELD_WIDTH = 8     /* a field is wider than its bits */
 };
 
 /* Begins a call that is heard from its first frame: writes the image that the sender began with, 2 and 2 in its last bytes.
@@ -106,17 +110,50 @@ uint8_t drolkhise_shelf_fetch(const uint8_t *records, size_t records_length, con
 uint8_t drolkhise_seek(const uint8_t *tables, size_t tables_length, const uint8_t *records, size_t records_length, const uint8_t *images, size_t images_length,
                        const uint8_t *recording, size_t recording_length, uint32_t frame, uint8_t *image, size_t image_length);
 
+/* Checks the tables, as each call does that is lent them, and tells what is wrong: of those that break a set rule (4) writes the lowest rule that is broken,
+ * 1 to 6 (1 the index limit and the class bases, 2 pulses, 3 shape selectors, 4 positions, 5 ALT entries, 6 floats), to the first byte of `told`, and to the
+ * other four, low byte first, the first place that breaks it: a word's number, from 0, or for a float that of its first byte behind the 5,963 words.
+ * With any other number (0, 1) it writes zeros; with `told` of another length, which is 2 where the tables are as long as they must be, nothing. */
+uint8_t drolkhise_check_tables(const uint8_t *tables, size_t tables_length, uint8_t *told, size_t told_length);
+
+/* The fields of half a frame in their order, and how many bits each has. Field k of the first half is at bytes 2 * k and 2 * k + 1 of the fields, low byte
+ * first, and of the second half DROLKHISE_HALF bytes on. */
+enum drolkhise_field {
+    DROLKHISE_GAIN_LOW0,      /* 4 */
+    DROLKHISE_GAIN_LOW1,      /* 4 */
+    DROLKHISE_CODE0,          /* 16 */
+    DROLKHISE_CODE1,          /* 16 */
+    DROLKHISE_GAIN_HIGH0,     /* 3 */
+    DROLKHISE_GAIN_HIGH1,     /* 3 */
+    DROLKHISE_MODE,           /* 1 */
+    DROLKHISE_STAGE1,         /* 7 */
+    DROLKHISE_STAGE2_LOW,     /* 6 */
+    DROLKHISE_STAGE2_HIGH,    /* 6 */
+    DROLKHISE_ABSOLUTE_PITCH, /* 8 */
+    DROLKHISE_RELATIVE_PITCH  /* 5 */
+};
+enum { DROLKHISE_HALF = DROLKHISE_FIELDS / 2 };
+
+/* Takes a frame apart: writes its fields, as the decoder has them. Refused (3, 6) it writes zeros; with 2 nothing. No tables are asked for, so a frame that a
+ * decode refuses with 7 has fields too. */
+uint8_t drolkhise_unpack(const uint8_t *payload, size_t payload_length, uint8_t *fields, size_t fields_length);
+
+/* Puts a frame together: writes the one that has these fields. Refused (2, 3, 8; 3 where the room for the frame is not 20 bytes long) it writes nothing. Fields
+ * that are accepted are those that the frame is unpacked to, and a frame that was unpacked is packed to the same bytes. */
+uint8_t drolkhise_pack(const uint8_t *fields, size_t fields_length, uint8_t *payload, size_t payload_length);
+
 /* What a call answered, in words. */
 static inline const char *drolkhise_refusal_text(uint8_t number) {
     switch (number) {
     case DROLKHISE_ACCEPTED: return "accepted";
     case DROLKHISE_TABLES_LENGTH: return "the tables are not 15,834 bytes long";
-    case DROLKHISE_SAMPLES_LENGTH: return "the room for samples is not 640 bytes a frame, or that for numbers not one";
+    case DROLKHISE_SAMPLES_LENGTH: return "the room for samples, for numbers or for what is told, or the fields, are of another length";
     case DROLKHISE_PAYLOAD_LENGTH: return "the frame is not 20 bytes long, or there are not 1 to 64";
     case DROLKHISE_TABLES_RULE: return "the tables break a set rule";
     case DROLKHISE_IMAGE_RULE: return "the image is no decoder's";
     case DROLKHISE_PADDING: return "a padding bit of the frame is set";
     case DROLKHISE_CODE_INDEX: return "a code index of the frame has no position";
+    case DROLKHISE_FIELD_WIDTH: return "a field is wider than its bits";
     case DROLKHISE_IMAGE_LENGTH: return "the image is not 526 bytes long";
     case DROLKHISE_SHELF_LENGTH: return "the shelf's records or images, or the room for a slot, are of another length";
     case DROLKHISE_NO_SLOT: return "there is no such slot, or it has no users";

@@ -6,9 +6,10 @@
 //     test_c order TABLES RECORDING                       every fault of a buffer beside every fault of the others
 //     test_c images TABLES RECORDING                      an image damaged one byte at a time
 //     test_c calls SEED COUNT TABLES RECORDING [..]       so many random calls, over one table set or several
+//     test_c fields SEED COUNT TABLES RECORDING           table check, unpacker and packer: lengths, orders, and so many random tables, frames and fields
 //     test_c threads TABLES RECORDING                     four threads at once, and the peak of their stacks
 //
-// With -r before these, each call goes to standard output with all that it was lent and all that it left, for `oracle calls`; the rest is said on
+// With -r before these but `fields`, each call goes to standard output with all that it was lent and all that it left, for `oracle calls`; the rest is said on
 // standard error. Of the recording all but `text` need frames that are accepted, `order` one that is refused with 7.
 // What several frames in one call are answered with, and leave, is compared with their single calls, each time that they are called.
 //
@@ -587,6 +588,188 @@ static void calls(unsigned long count, int set_count) {
     said("random calls");
 }
 
+// ---- table check, unpacker and packer: one buffer is read and one written
+
+enum { CHECK_TABLES, UNPACK, PACK };
+
+static const struct {
+    const char *name;
+    uint8_t (*call)(const uint8_t *, size_t, uint8_t *, size_t);
+    size_t in, out;         // the right lengths
+    uint8_t no_in, no_out;  // the numbers that others are refused with; of two the lower comes first
+} pairs[] = {{"check tables", drolkhise_check_tables, DROLKHISE_TABLES, DROLKHISE_TOLD, 1, 2},
+             {"unpack", drolkhise_unpack, DROLKHISE_PAYLOAD, DROLKHISE_FIELDS, 3, 2},
+             {"pack", drolkhise_pack, DROLKHISE_FIELDS, DROLKHISE_PAYLOAD, 2, 3}};
+
+// Makes the call twice, with each buffer on either side of its room and with two fills, and looks at all that it may not have touched. Where the answer is
+// `number` there must be `wanted` in what is written, or where that is NULL what was there. A length of 0 is lent as a null pointer too.
+static void expect_pair(int which, const uint8_t *in, size_t in_length, size_t out_length, uint8_t number, const uint8_t *wanted) {
+    for (int k = 0; k < (in_length && out_length ? 2 : 4); k++) {
+        uint8_t fill = k & 1 ? 0x3c : 0xc3, stood[PAGE];
+        size_t in_front = k & 1 ? 0 : room[TABLES].size - in_length, out_front = k & 1 ? room[IMAGE].size - out_length : 0;
+        uint8_t *from = room[TABLES].from + in_front, *to = room[IMAGE].from + out_front;
+        memset(room[TABLES].from, GUARD, room[TABLES].size);
+        memset(room[IMAGE].from, GUARD, room[IMAGE].size);
+        memcpy(from, in, in_length);
+        memset(to, fill, out_length);
+        memset(stood, fill, out_length);
+        uint8_t got = pairs[which].call(k & 2 && in_length == 0 ? NULL : from, in_length, k & 2 && out_length == 0 ? NULL : to, out_length);
+        made++;
+        const char *name = pairs[which].name;
+        if (got != number) fail("%s with lengths %zu %zu: answered %d, not %d", name, in_length, out_length, got, number);
+        if (memcmp(from, in, in_length)) fail("%s wrote into what it reads", name);
+        if (memcmp(to, wanted ? wanted : stood, out_length)) fail("%s, answered %d, left other bytes than it should", name, number);
+        size_t behind = room[TABLES].size - in_front - in_length, out_behind = room[IMAGE].size - out_front - out_length;
+        if (memcmp(room[TABLES].from, guards, in_front) || memcmp(from + in_length, guards, behind)) fail("%s wrote beside what it reads", name);
+        if (memcmp(room[IMAGE].from, guards, out_front) || memcmp(to + out_length, guards, out_behind)) fail("%s wrote beside its room", name);
+    }
+}
+
+// Document 01's set rules, read a second time: the number, and what is told.
+static uint8_t second_check(const uint8_t *t, uint8_t *told) {
+    static const struct {
+        int from, count, step;
+    } at[] = {{186, 7, 1}, {193, 5, 1}, {198, 5, 3}, {243, 600, 1}, {1483, 3200, 1}, {0, 977, 4}};
+    memset(told, 0, DROLKHISE_TOLD);
+    for (int rule = 1; rule <= 6; rule++)
+        for (int k = 0; k < at[rule - 1].count; k++) {
+            int place = at[rule - 1].from + at[rule - 1].step * k;
+            const uint8_t *b = t + (rule == 6 ? 2 * 5963 + place : 2 * place);
+            int u = b[0] | b[1] << 8, w = u < 32768 ? u : u - 65536, bad = 0;
+            uint32_t bits = (uint32_t)b[0] | (uint32_t)b[1] << 8 | (uint32_t)b[2] << 16 | (uint32_t)b[3] << 24;
+            float x;
+            memcpy(&x, &bits, sizeof x);
+            switch (rule) {
+            case 1: bad = k == 0 ? u < 1 : k == 1 ? u != 0 : u < (b[-2] | b[-1] << 8); break;
+            case 2: bad = w != 2 && w != 3; break;
+            case 3: bad = w < 0 || w > 29; break;
+            case 4: bad = w < 0; break;
+            case 5: bad = w == 0 || w < -80 || w > 80; break;
+            case 6: bad = !(fabsf(x) <= 65536); break;
+            }
+            if (!bad) continue;
+            told[0] = (uint8_t)rule;
+            put_number(told + 1, (size_t)place);
+            return 4;
+        }
+    return 0;
+}
+
+// bits.rs read a second time: of each field of a half the places, highest first, as q(k), a(k) and b(k); how many each has is its width.
+enum { A = 100, B = 200 };
+static const uint8_t places[12][17] = {{23, 24, 25, 26},
+                                       {35, 36, 37, 38},
+                                       {18, 19, B + 7, B + 5, A + 6, A + 4, B + 6, B + 4, A + 11, A + 9, B + 11, B + 9, A + 10, A + 8, B + 10, B + 8},
+                                       {30, 31, B + 15, B + 13, A + 14, A + 12, B + 14, B + 12, A + 19, A + 17, B + 19, B + 17, A + 18, A + 16, B + 18, B + 16},
+                                       {20, 21, 22},
+                                       {32, 33, 34},
+                                       {0},
+                                       {1, 2, 3, 4, 5, 6, 7},
+                                       {8, 9, 10, 11, A + 3, A + 1},
+                                       {B + 3, B + 1, A + 2, A + 0, B + 2, B + 0},
+                                       {12, 13, 14, 15, 16, 17, A + 7, A + 5},
+                                       {27, 28, 29, A + 15, A + 13}};
+static const int widths[12] = {4, 4, 16, 16, 3, 3, 1, 7, 6, 6, 8, 5};
+
+static uint8_t second_unpack(const uint8_t *frame, uint8_t *fields) {
+    memset(fields, 0, DROLKHISE_FIELDS);
+    if (frame[19] & 0xc0) return 6;
+    for (int field = 0; field < 24; field++) {
+        int h = field / 12, v = 0;
+        for (int k = 0; k < widths[field % 12]; k++) {
+            int p = places[field % 12][k], i = p < A ? 39 * h + p : p < B ? 78 + 20 * h + p - A : 118 + 20 * h + p - B;
+            v = 2 * v + ((frame[i / 8] >> i % 8 & 1) ^ (i == 79 || i == 83 || i == 85));
+        }
+        if (field == DROLKHISE_ABSOLUTE_PITCH) v ^= 3;
+        fields[2 * field] = (uint8_t)v;
+        fields[2 * field + 1] = (uint8_t)(v >> 8);
+    }
+    return 0;
+}
+
+// Every length of either buffer, and each wrong one beside a wrong one of the other and beside a fault of the bytes, which is tried last.
+static void pair_lengths(void) {
+    static const size_t most[][2] = {{DROLKHISE_TABLES + 2, 40}, {100, 100}, {100, 100}};
+    static uint8_t good[3][DROLKHISE_TABLES + 2], bad[3][DROLKHISE_TABLES + 2], left[3][DROLKHISE_FIELDS], left_bad[3][DROLKHISE_FIELDS];
+    static const uint8_t fault[] = {4, 6, 8};
+    memcpy(good[CHECK_TABLES], sets[0], DROLKHISE_TABLES);
+    memcpy(good[UNPACK], middle.payload, DROLKHISE_PAYLOAD);
+    second_unpack(good[UNPACK], left[UNPACK]);
+    memcpy(good[PACK], left[UNPACK], DROLKHISE_FIELDS);
+    memcpy(left[PACK], good[UNPACK], DROLKHISE_PAYLOAD);
+    memcpy(bad, good, sizeof bad);
+    memset(bad[CHECK_TABLES] + 2 * 1483, 0, 2);
+    bad[UNPACK][19] |= 0x80;
+    bad[PACK][2 * DROLKHISE_MODE + 1] = 1;
+    int judged = second_check(good[CHECK_TABLES], left[CHECK_TABLES]) == 0 && second_check(bad[CHECK_TABLES], left_bad[CHECK_TABLES]) == 4;
+    if (!judged) fail("the second reading of the set rules is wrong");
+    for (int which = CHECK_TABLES; which <= PACK; which++)
+        for (int spoilt = 0; spoilt < 2; spoilt++) {
+            const uint8_t *in = spoilt ? bad[which] : good[which];
+            size_t right_in = pairs[which].in, right_out = pairs[which].out;
+            uint8_t no_in = pairs[which].no_in, no_out = pairs[which].no_out;
+            // what is written where only the other buffer is wrong, or none: zeros, but by the packer nothing
+            const uint8_t *zeros = which == PACK ? NULL : left_bad[UNPACK];
+            for (size_t n = 0; n <= most[which][0]; n++)
+                if (n != right_in) expect_pair(which, in, n, right_out, no_in, zeros);
+            for (size_t m = 0; m <= most[which][1]; m++) {
+                if (m == right_out) continue;
+                expect_pair(which, in, right_in, m, no_out, NULL);
+                for (size_t n = 0; n < 30; n++)
+                    if (n != right_in) expect_pair(which, in, n, m, no_in < no_out ? no_in : no_out, NULL);
+            }
+            expect_pair(which, in, right_in, right_out, spoilt ? fault[which] : 0, !spoilt ? left[which] : which == CHECK_TABLES ? left_bad[which] : zeros);
+        }
+    said("table check, unpack and pack: lengths and orders");
+}
+
+static void fields(unsigned long count) {
+    static uint8_t tables[DROLKHISE_TABLES];
+    unsigned long rules[7] = {0}, wide = 0;
+    pair_lengths();
+    for (unsigned long n = 0; n < count; n++) {
+        uint8_t frame[DROLKHISE_PAYLOAD], numbers[DROLKHISE_FIELDS], told[DROLKHISE_TOLD], image[DROLKHISE_IMAGE];
+        // a frame: its fields, and from those the frame
+        for (int k = 0; k < DROLKHISE_PAYLOAD; k++) frame[k] = (uint8_t)below(256);
+        if (below(4)) frame[19] &= 0x3f;
+        uint8_t number = second_unpack(frame, numbers);
+        expect_pair(UNPACK, frame, sizeof frame, sizeof numbers, number, numbers);
+        if (number == 0) expect_pair(PACK, numbers, sizeof numbers, sizeof frame, 0, frame);
+        // fields: one of them may be a bit too wide
+        int chosen = (int)below(24), over = 0;
+        for (int k = 0; k < 24; k++) {
+            uint32_t v = below(1u << widths[k % 12]);
+            if (k == chosen && below(2) && widths[k % 12] < 16) v = below(1u << 16), over = v >> widths[k % 12] != 0;
+            numbers[2 * k] = (uint8_t)v;
+            numbers[2 * k + 1] = (uint8_t)(v >> 8);
+        }
+        wide += over != 0;
+        if (over) {
+            expect_pair(PACK, numbers, sizeof numbers, sizeof frame, 8, NULL);
+        } else {
+            if (drolkhise_pack(numbers, sizeof numbers, frame, sizeof frame) != 0) fail("fields within their widths were refused");
+            expect_pair(PACK, numbers, sizeof numbers, sizeof frame, 0, frame);
+            expect_pair(UNPACK, frame, sizeof frame, sizeof numbers, 0, numbers);
+        }
+        if (n % 10) continue;
+        // tables with up to three bytes changed, each mostly where a rule looks
+        static const size_t from[] = {2 * 186, 2 * 193, 2 * 198, 2 * 243, 2 * 1483, 2 * 5963, 0}, size[] = {14, 10, 26, 1200, 6400, 3908, DROLKHISE_TABLES};
+        memcpy(tables, sets[0], sizeof tables);
+        for (uint32_t k = below(4); k > 0; k--) {
+            uint32_t part = below(7);
+            damage(tables + from[part], size[part]);
+        }
+        number = second_check(tables, told);
+        rules[told[0]]++;
+        expect_pair(CHECK_TABLES, tables, sizeof tables, sizeof told, number, told);
+        if (drolkhise_reset(tables, sizeof tables, image, sizeof image) != number) fail("reset answers another number than the table check");
+    }
+    for (int rule = 0; rule <= 6 && count >= 10000; rule++)
+        if (rules[rule] == 0) fail("no tables were told to break rule %d", rule);
+    printf("rules told %lu %lu %lu %lu %lu %lu, none %lu; fields too wide %lu; ", rules[1], rules[2], rules[3], rules[4], rules[5], rules[6], rules[0], wide);
+    said("table check, unpack and pack, random");
+}
+
 // ---- threads
 
 enum { THREADS = 4, STACK = 1 << 20, PAINT = 0x5a };
@@ -666,7 +849,7 @@ int main(int argc, char **argv) {
     const char *mode;
     if (argc > 1 && !strcmp(argv[1], "-r")) records = stdout, argc--, argv++;
     mode = argc > 1 ? argv[1] : "";
-    int random = !strcmp(mode, "calls"), from = random ? 4 : 2;
+    int random = !strcmp(mode, "calls") || !strcmp(mode, "fields"), from = random ? 4 : 2;
     if (argc < from + 2 || (argc - from) / 2 > MOST_SETS) fail("test_c.c says what it takes");
     for (int k = 0; from + 2 * k + 1 < argc; k++) {
         read_set(argv[from + 2 * k], k);
@@ -674,8 +857,10 @@ int main(int argc, char **argv) {
         if (recordings[k].count == 0) fail("a recording is empty");
     }
     make_rooms();
-    if (!random && strcmp(mode, "text") && strcmp(mode, "threads")) play_to_middle();
-    if (random) seed = strtoull(argv[2], NULL, 10) * 2 + 1, calls(strtoul(argv[3], NULL, 10), (argc - from) / 2);
+    if (strcmp(mode, "calls") && strcmp(mode, "text") && strcmp(mode, "threads")) play_to_middle();
+    if (random) seed = strtoull(argv[2], NULL, 10) * 2 + 1;
+    if (!strcmp(mode, "calls")) calls(strtoul(argv[3], NULL, 10), (argc - from) / 2);
+    else if (!strcmp(mode, "fields")) fields(strtoul(argv[3], NULL, 10));
     else if (!strcmp(mode, "text")) text();
     else if (!strcmp(mode, "lengths")) lengths();
     else if (!strcmp(mode, "order")) every_fault();

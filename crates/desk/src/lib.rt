@@ -3,6 +3,7 @@ ghost use mathlib.Core.Path.{_≡_};
 ghost use lib.ListN.{length};
 ghost use Rattle.shelf.specs.Shelf as Shelf;
 ghost use Rattle.desk_shelf.specs.Calls as Calls;
+ghost use Rattle.desk_fields.specs.Calls as Fields;
 ghost use Rattle.seek.specs.Seek as Seek;
 ghost use Rattle.desk.specs.Desk as Desk;
 ghost use Rattle.desk.specs.Seeking as Seeking;
@@ -296,4 +297,30 @@ pub extern "C" fn drolkhise_seek(
     let state = found.state;
     image::write(state, image);
     found.number
+}
+
+// The table check, the unpacker and the packer: the calls of desk_fields under C names.
+
+#[no_mangle]
+pub extern "C" fn drolkhise_check_tables(tables: &[u8], told: &mut [u8]) -> u8
+    ensures number { λ r. ⌜ r ≡ Fields.checkNumber (now (tables .entry)) (length (now (told .entry))) ⌝ }
+    ensures told { λ _. ⌜ now (told .exit) ≡ Fields.checkTold (now (tables .entry)) (now (told .entry)) ⌝ }
+{
+    desk_fields::check_tables(tables, told)
+}
+
+#[no_mangle]
+pub extern "C" fn drolkhise_unpack(payload: &[u8], fields: &mut [u8]) -> u8
+    ensures number { λ r. ⌜ r ≡ Fields.unpackNumber (now (payload .entry)) (length (now (fields .entry))) ⌝ }
+    ensures fields { λ _. ⌜ now (fields .exit) ≡ Fields.unpackFields (now (payload .entry)) (now (fields .entry)) ⌝ }
+{
+    desk_fields::unpack(payload, fields)
+}
+
+#[no_mangle]
+pub extern "C" fn drolkhise_pack(fields: &[u8], payload: &mut [u8]) -> u8
+    ensures number { λ r. ⌜ r ≡ Fields.packNumber (now (fields .entry)) (now (payload .entry)) ⌝ }
+    ensures payload { λ _. ⌜ now (payload .exit) ≡ Fields.packPayload (now (fields .entry)) (now (payload .entry)) ⌝ }
+{
+    desk_fields::pack(fields, payload)
 }

@@ -32,6 +32,9 @@ extern "C" {
         numbers_length: usize,
     ) -> u8;
     fn drolkhise_missed_frame(image: *mut u8, image_length: usize) -> u8;
+    fn drolkhise_check_tables(tables: *const u8, tables_length: usize, told: *mut u8, told_length: usize) -> u8;
+    fn drolkhise_unpack(payload: *const u8, payload_length: usize, fields: *mut u8, fields_length: usize) -> u8;
+    fn drolkhise_pack(fields: *const u8, fields_length: usize, payload: *mut u8, payload_length: usize) -> u8;
     #[rustfmt::skip]
     fn drolkhise_shelf_save(
         records: *mut u8,
@@ -111,6 +114,21 @@ pub fn decode_frames(tables: &[u8], image: &mut [u8], payloads: &[u8], samples: 
 pub fn missed_frame(image: &mut [u8]) -> u8 {
     // SAFETY: writes `image`, a pointer with its own slice's length.
     unsafe { drolkhise_missed_frame(image.as_mut_ptr(), image.len()) }
+}
+
+pub fn check_tables(tables: &[u8], told: &mut [u8]) -> u8 {
+    // SAFETY: reads `tables`, writes `told`: each pointer with its own slice's length, and the two do not overlap.
+    unsafe { drolkhise_check_tables(tables.as_ptr(), tables.len(), told.as_mut_ptr(), told.len()) }
+}
+
+pub fn unpack(payload: &[u8], fields: &mut [u8]) -> u8 {
+    // SAFETY: reads `payload`, writes `fields`: each pointer with its own slice's length, and the two do not overlap.
+    unsafe { drolkhise_unpack(payload.as_ptr(), payload.len(), fields.as_mut_ptr(), fields.len()) }
+}
+
+pub fn pack(fields: &[u8], payload: &mut [u8]) -> u8 {
+    // SAFETY: reads `fields`, writes `payload`: each pointer with its own slice's length, and the two do not overlap.
+    unsafe { drolkhise_pack(fields.as_ptr(), fields.len(), payload.as_mut_ptr(), payload.len()) }
 }
 
 pub fn shelf_save(records: &mut [u8], images: &mut [u8], image: &[u8], frame: u32, slot: &mut [u8]) -> u8 {

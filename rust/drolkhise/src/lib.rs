@@ -38,6 +38,10 @@
 //! call.mark();
 //! ```
 //!
+//! # What a frame says
+//!
+//! [`Fields`] takes a frame apart and puts one together, without tables; which rule a table file breaks, and where, is in [`Refusal::TablesRule`].
+//!
 //! # To go back in a call
 //!
 //! A [`Shelf`] keeps up to sixteen decoders as they stood before some frame. What is kept there is had by a handle, a [`Saved`], and stays as it is until the
@@ -92,13 +96,20 @@ pub enum Refusal {
     /// The frame is not [`FRAME`] bytes long, or several are not 1 to [`MOST_FRAMES`] frames.
     FrameLength,
     /// The tables break a set rule.
-    TablesRule,
+    TablesRule {
+        /// The lowest rule that is broken: 1 the index limit and the class bases, 2 pulses, 3 shape selectors, 4 positions, 5 ALT entries, 6 floats.
+        rule: u8,
+        /// The first place that breaks it: a word's number, from 0, or for a float that of its first byte behind the 5,963 words.
+        place: usize,
+    },
     /// The image is no decoder's: one of its floats is no number within 131,072, or one of its last two bytes is above 2.
     ImageRule,
     /// One of the two highest bits of the frame's last byte is set.
     Padding,
     /// A code index of the frame has no position under these tables.
     CodeIndex,
+    /// A field is wider than its bits.
+    FieldWidth,
     /// The image is not [`IMAGE`] bytes long.
     ImageLength,
     /// The shelf's bytes are of another length: none that a [`Shelf`] has.
@@ -117,10 +128,11 @@ impl Refusal {
         match self {
             Refusal::TablesLength => 1,
             Refusal::FrameLength => 3,
-            Refusal::TablesRule => 4,
+            Refusal::TablesRule { .. } => 4,
             Refusal::ImageRule => 5,
             Refusal::Padding => 6,
             Refusal::CodeIndex => 7,
+            Refusal::FieldWidth => 8,
             Refusal::ImageLength => 11,
             Refusal::ShelfLength => 12,
             Refusal::NoSlot => 13,
@@ -135,16 +147,21 @@ impl fmt::Display for Refusal {
         f.write_str(match self {
             Refusal::TablesLength => "the tables are not 15,834 bytes long",
             Refusal::FrameLength => "the frame is not 20 bytes long, or there are not 1 to 64",
-            Refusal::TablesRule => "the tables break a set rule",
+            Refusal::TablesRule { .. } => "the tables break a set rule",
             Refusal::ImageRule => "the image is no decoder's",
             Refusal::Padding => "a padding bit of the frame is set",
             Refusal::CodeIndex => "a code index of the frame has no position",
+            Refusal::FieldWidth => "a field is wider than its bits",
             Refusal::ImageLength => "the image is not 526 bytes long",
             Refusal::ShelfLength => "the shelf's records or images, or the room for a slot, are of another length",
             Refusal::NoSlot => "there is no such slot, or it has no users",
             Refusal::SlotFull => "no slot is free, or the slot has 255 users",
             Refusal::NoFrame => "no save is at or below the frame, or the recording has no such frame",
-        })
+        })?;
+        match self {
+            Refusal::TablesRule { rule, place } => write!(f, ": rule {rule}, at {} {place}", if *rule == 6 { "byte" } else { "word" }),
+            _ => Ok(()),
+        }
     }
 }
 
@@ -156,16 +173,16 @@ fn answered(number: u8) -> Result<(), Refusal> {
         0 => return Ok(()),
         1 => Refusal::TablesLength,
         3 => Refusal::FrameLength,
-        4 => Refusal::TablesRule,
         5 => Refusal::ImageRule,
         6 => Refusal::Padding,
         7 => Refusal::CodeIndex,
+        8 => Refusal::FieldWidth,
         11 => Refusal::ImageLength,
         12 => Refusal::ShelfLength,
         13 => Refusal::NoSlot,
         14 => Refusal::SlotFull,
         15 => Refusal::NoFrame,
-        // 2, a wrong room for samples, is none that this crate lends
+        // 2, a room of another length, is none that this crate lends, and of 4 `Tables::new` alone hears
         _ => unreachable!("the archive answered {number}: it is not the one that this crate was written for"),
     })
 }
@@ -177,14 +194,99 @@ pub struct Tables(Box<[u8]>);
 impl Tables {
     /// Checks the bytes of a table file, and keeps a copy of them.
     pub fn new(bytes: &[u8]) -> Result<Tables, Refusal> {
-        answered(ffi::reset(bytes, &mut [0; IMAGE]))?;
-        Ok(Tables(bytes.into()))
+        let mut told = [0; 5];
+        match ffi::check_tables(bytes, &mut told) {
+            4 => Err(Refusal::TablesRule { rule: told[0], place: u32::from_le_bytes([told[1], told[2], told[3], told[4]]) as usize }),
+            number => answered(number).map(|()| Tables(bytes.into())),
+        }
     }
 }
 
 impl fmt::Debug for Tables {
     fn fmt(&self, f: &mut fmt::Formatter<'_>) -> fmt::Result {
         f.write_str("Tables(..)")
+    }
+}
+
+/// The fields of half a frame, 160 samples: numbers of so many bits as are said, by the names that the decoder's source has for them.
+#[derive(Clone, Copy, Debug, Default, PartialEq, Eq, Hash)]
+pub struct Half {
+    /// The low part of the first subframe's gain index, 4 bits.
+    pub gain_low0: u16,
+    /// That of the second, 4 bits.
+    pub gain_low1: u16,
+    /// The fixed codebook's index of the first subframe, 16 bits.
+    pub code0: u16,
+    /// That of the second, 16 bits.
+    pub code1: u16,
+    /// The high part of the first subframe's gain index, 3 bits.
+    pub gain_high0: u16,
+    /// That of the second, 3 bits.
+    pub gain_high1: u16,
+    /// Which of two predictions the line spectral frequencies have, 1 bit.
+    pub mode: u16,
+    /// Their first codebook's index, 7 bits.
+    pub stage1: u16,
+    /// The second's for the low frequencies, 6 bits.
+    pub stage2_low: u16,
+    /// And for the high ones, 6 bits.
+    pub stage2_high: u16,
+    /// The first subframe's lag, 8 bits.
+    pub absolute_pitch: u16,
+    /// The second's, from there, 5 bits.
+    pub relative_pitch: u16,
+}
+
+impl Half {
+    fn new(n: [u16; 12]) -> Half {
+        let [gain_low0, gain_low1, code0, code1, gain_high0, gain_high1, mode, stage1, stage2_low, stage2_high, absolute_pitch, relative_pitch] = n;
+        Half { gain_low0, gain_low1, code0, code1, gain_high0, gain_high1, mode, stage1, stage2_low, stage2_high, absolute_pitch, relative_pitch }
+    }
+
+    fn numbers(&self) -> [u16; 12] {
+        let Half { gain_low0, gain_low1, code0, code1, gain_high0, gain_high1, mode, stage1, stage2_low, stage2_high, absolute_pitch, relative_pitch } = *self;
+        [gain_low0, gain_low1, code0, code1, gain_high0, gain_high1, mode, stage1, stage2_low, stage2_high, absolute_pitch, relative_pitch]
+    }
+}
+
+/// A frame taken apart: what its bits say, without the tables that give it a sound.
+///
+/// ```
+/// use drolkhise::Fields;
+///
+/// let mut fields = Fields::unpack(&[0; 20])?;
+/// assert_eq!((fields.first.stage2_low, fields.second.stage2_low), (1, 0)); // one bit of a frame is sent inverted
+/// fields.second.code1 = 0xffff;
+/// let frame = fields.pack()?;
+/// assert_eq!(Fields::unpack(&frame)?, fields);
+/// # Ok::<(), drolkhise::Refusal>(())
+/// ```
+#[derive(Clone, Copy, Debug, Default, PartialEq, Eq, Hash)]
+pub struct Fields {
+    /// Of the first 160 samples.
+    pub first: Half,
+    /// Of the others.
+    pub second: Half,
+}
+
+impl Fields {
+    /// The fields of a frame. Refused are another length than [`FRAME`] and a padding bit that is set. One that a decoder refuses with [`Refusal::CodeIndex`]
+    /// has fields too.
+    pub fn unpack(frame: &[u8]) -> Result<Fields, Refusal> {
+        let mut room = [0; 48];
+        answered(ffi::unpack(frame, &mut room))?;
+        let half = |h: usize| Half::new(std::array::from_fn(|k| u16::from_le_bytes([room[24 * h + 2 * k], room[24 * h + 2 * k + 1]])));
+        Ok(Fields { first: half(0), second: half(1) })
+    }
+
+    /// The frame that has these fields. Refused is a field that is wider than its bits, with [`Refusal::FieldWidth`].
+    pub fn pack(&self) -> Result<[u8; FRAME], Refusal> {
+        let (mut room, mut frame) = ([0; 48], [0; FRAME]);
+        for (bytes, n) in room.chunks_exact_mut(2).zip(self.first.numbers().into_iter().chain(self.second.numbers())) {
+            bytes.copy_from_slice(&n.to_le_bytes());
+        }
+        answered(ffi::pack(&room, &mut frame))?;
+        Ok(frame)
     }
 }
 

@@ -1,5 +1,5 @@
 //! The crate beside the program `decode` on the demo's calls, the C header's words and numbers, and everything that is refused.
-use drolkhise::{Decoder, Refusal, Saved, Shelf, Tables, FRAME, IMAGE, MOST_FRAMES, MOST_HANDLES, SAMPLES, SLOTS, TABLES};
+use drolkhise::{Decoder, Fields, Half, Refusal, Saved, Shelf, Tables, FRAME, IMAGE, MOST_FRAMES, MOST_HANDLES, SAMPLES, SLOTS, TABLES};
 use std::fs::{self, File};
 use std::path::{Path, PathBuf};
 use std::process::Command;
@@ -156,9 +156,105 @@ fn tables_of_another_length_or_against_a_rule_are_refused() {
     for length in (0..64).chain(TABLES - 40..TABLES + 41).filter(|&n| n != TABLES) {
         assert_eq!(Tables::new(&longer[..length]).unwrap_err(), Refusal::TablesLength, "{length} bytes");
     }
-    let mut broken = file;
-    broken[2 * 186..2 * 187].fill(0); // the index limit, which is to be at least 1
-    assert_eq!(Tables::new(&broken).unwrap_err(), Refusal::TablesRule);
+    // the index limit 0, a falling base, four pulses, a selector of 30, a negative position, an ALT entry of 0, an infinite float; of two rules the lower
+    let words: [(u8, usize, i16); 6] = [(1, 186, 0), (1, 192, 0), (2, 197, 4), (3, 210, 30), (4, 842, -1), (5, 4682, 0)];
+    let float = [0, 0, 0x80, 0x7f];
+    let with = |changes: &[(usize, &[u8])]| {
+        let mut broken = file.clone();
+        changes.iter().for_each(|(at, bytes)| broken[*at..at + bytes.len()].copy_from_slice(bytes));
+        Tables::new(&broken).unwrap_err()
+    };
+    for (rule, place, word) in words {
+        let word = word.to_le_bytes();
+        assert_eq!(with(&[(2 * place, &word)]), Refusal::TablesRule { rule, place });
+        assert_eq!(with(&[(2 * place, &word), (TABLES - 4, &float)]), Refusal::TablesRule { rule, place });
+    }
+    let why = with(&[(TABLES - 4, &float), (TABLES - 8, &float)]);
+    assert_eq!((why, why.number()), (Refusal::TablesRule { rule: 6, place: 3900 }, 4));
+    assert_eq!(why.to_string(), "the tables break a set rule: rule 6, at byte 3900");
+}
+
+/// What `decode` says of the same file.
+#[test]
+fn a_broken_rule_is_told_as_decode_tells_it() {
+    let room = Path::new(env!("CARGO_TARGET_TMPDIR")).join("tables");
+    fs::create_dir_all(&room).unwrap();
+    for (at, byte) in [(2 * 186, 0), (2 * 195, 9), (2 * 204, 99), (2 * 800, 0x80), (2 * 1700, 0), (11926 + 4 * 512 + 2, 0x7f)] {
+        let mut broken = file();
+        broken[at..at + 2].fill(byte);
+        fs::write(room.join("tables.bin"), &broken).unwrap();
+        let wanted = String::from_utf8(said(Command::new(root().join("tools/launch")).arg("decode").current_dir(&room))).unwrap();
+        let Err(Refusal::TablesRule { rule, place }) = Tables::new(&broken) else { panic!("byte {at}: no rule is told") };
+        assert_eq!(format!("tables refused 4 {rule} {place}\n"), wanted, "byte {at}");
+    }
+}
+
+#[test]
+fn fields_and_frames_give_each_other_back() {
+    let mut accepted = 0;
+    for line in CALLS.iter().flat_map(|call| lines(call)) {
+        let Some(frame) = frame(&line) else { continue };
+        match Fields::unpack(&frame) {
+            Ok(fields) => {
+                assert_eq!(fields.pack().unwrap()[..], frame[..]);
+                assert_eq!(Fields::unpack(&fields.pack().unwrap()), Ok(fields));
+                accepted += 1;
+            }
+            Err(why) => assert_eq!((why, frame[19] & 0xc0 != 0), (Refusal::Padding, true)),
+        }
+    }
+    assert!(accepted > 100);
+    for length in (0..80).filter(|&n| n != FRAME) {
+        assert_eq!(Fields::unpack(&vec![0; length]), Err(Refusal::FrameLength), "{length} bytes");
+    }
+    // document 01's case 13: of a frame of zeros stage2_low is 1 then 0, and every other field 0
+    let zero = Fields { first: Half { stage2_low: 1, ..Half::default() }, ..Fields::default() };
+    assert_eq!(Fields::unpack(&[0; FRAME]), Ok(zero));
+}
+
+/// Each field at its largest is packed and comes back alone, one more is refused, and its highest bit is the frame's bit that bits.rs has first.
+#[test]
+fn fields_have_their_bits() {
+    type Field = fn(&mut Half) -> &mut u16;
+    let halves: [fn(&mut Fields) -> &mut Half; 2] = [|f| &mut f.first, |f| &mut f.second];
+    // how wide it is, and where that bit is in either half
+    let fields: [(Field, u32, [usize; 2]); 12] = [
+        (|h| &mut h.gain_low0, 4, [23, 62]),
+        (|h| &mut h.gain_low1, 4, [35, 74]),
+        (|h| &mut h.code0, 16, [18, 57]),
+        (|h| &mut h.code1, 16, [30, 69]),
+        (|h| &mut h.gain_high0, 3, [20, 59]),
+        (|h| &mut h.gain_high1, 3, [32, 71]),
+        (|h| &mut h.mode, 1, [0, 39]),
+        (|h| &mut h.stage1, 7, [1, 40]),
+        (|h| &mut h.stage2_low, 6, [8, 47]),
+        (|h| &mut h.stage2_high, 6, [121, 141]),
+        (|h| &mut h.absolute_pitch, 8, [12, 51]),
+        (|h| &mut h.relative_pitch, 5, [27, 66]),
+    ];
+    let zero = Fields::default().pack().unwrap();
+    let mut bits = [0u8; FRAME];
+    for (field, width, places) in fields {
+        for (half, place) in halves.into_iter().zip(places) {
+            let mut some = Fields::default();
+            *field(half(&mut some)) = ((1u32 << width) - 1) as u16;
+            let frame = some.pack().unwrap();
+            assert_eq!(Fields::unpack(&frame), Ok(some));
+            // as many bits as the field is wide differ from no field's frame, and no two fields have one in common
+            let changed: Vec<u8> = frame.iter().zip(zero).map(|(a, b)| a ^ b).collect();
+            assert_eq!(changed.iter().map(|b| b.count_ones()).sum::<u32>(), width);
+            assert!(bits.iter().zip(&changed).all(|(a, b)| a & b == 0));
+            bits.iter_mut().zip(&changed).for_each(|(a, b)| *a |= b);
+            *field(half(&mut some)) = 1 << (width - 1);
+            let highest = some.pack().unwrap();
+            assert!((0..8 * FRAME).all(|i| ((highest[i / 8] ^ zero[i / 8]) >> (i % 8) & 1 == 1) == (i == place)));
+            if width < 16 {
+                *field(half(&mut some)) = 1 << width;
+                assert_eq!(some.pack(), Err(Refusal::FieldWidth));
+            }
+        }
+    }
+    assert_eq!(bits.map(u8::count_ones).iter().sum::<u32>(), 158);
 }
 
 #[test]
@@ -208,10 +304,11 @@ fn numbers_words_and_lengths_are_the_headers() {
     let refusals = [
         (Refusal::TablesLength, "TABLES_LENGTH"),
         (Refusal::FrameLength, "PAYLOAD_LENGTH"),
-        (Refusal::TablesRule, "TABLES_RULE"),
+        (Refusal::TablesRule { rule: 5, place: 1483 }, "TABLES_RULE"),
         (Refusal::ImageRule, "IMAGE_RULE"),
         (Refusal::Padding, "PADDING"),
         (Refusal::CodeIndex, "CODE_INDEX"),
+        (Refusal::FieldWidth, "FIELD_WIDTH"),
         (Refusal::ImageLength, "IMAGE_LENGTH"),
         (Refusal::ShelfLength, "SHELF_LENGTH"),
         (Refusal::NoSlot, "NO_SLOT"),
@@ -220,10 +317,11 @@ fn numbers_words_and_lengths_are_the_headers() {
     ];
     for (refusal, name) in refusals {
         assert_eq!(refusal.number() as usize, value(&format!("DROLKHISE_{name}")), "{name}");
-        let words = format!("case DROLKHISE_{name}: return \"{refusal}\";");
+        let refusal = refusal.to_string();
+        let words = format!("case DROLKHISE_{name}: return \"{}\";", refusal.split(": rule").next().unwrap());
         assert!(header.contains(&words), "the header has not: {words}");
     }
-    // one more stands there, 2, for a room that this crate lends itself
+    // one more stands there, 2, for rooms that this crate lends itself
     assert_eq!(header.matches(": return \"").count() - 2, refusals.len() + 1);
 }
 

@@ -1,0 +1,5 @@
+pub mod Fields
+pub mod Calls
+pub mod Told
+pub mod RoundTrips
+pub mod Cases
