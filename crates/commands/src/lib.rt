@@ -10,7 +10,7 @@ use hex::Line;
 const NONE: u64 = 4294967296;
 
 // What a command may be.
-pub const UNKNOWN: u8 = 0;
+const UNKNOWN: u8 = 0;
 
 pub const SAVE: u8 = 1;
 
@@ -20,7 +20,7 @@ pub const LET_GO: u8 = 3;
 
 pub const SEEK: u8 = 4;
 
-const PLAY: u8 = 5;
+pub const PLAY: u8 = 5;
 
 // A command and its numbers, 0 where it has none.
 pub struct Command {

@@ -87,11 +87,11 @@ module _ (text : List ℕ) (a : ℕ) where
   pub line-at : a < length text → pieces (drop a text) .first ≡ take (lineEnd (drop a text)) (drop a text)
   line-at h = first-is (drop a text)
 
-  lines-at : a < length text → lines (drop a text) ≡ pieces (drop a text) .first ∷ lines (drop (suc (lineEnd (drop a text))) (drop a text))
+  pub lines-at : a < length text → lines (drop a text) ≡ pieces (drop a text) .first ∷ lines (drop (suc (lineEnd (drop a text))) (drop a text))
   lines-at h = let d = drop-cons text a 0 h in rw d (lines-cons (getD text a 0) (drop (suc a) text))
 
   -- behind its line
-  behind-is : (r : ℕ) → r ≡ min (a + lineEnd (drop a text) + 1) (length text) → drop (suc (lineEnd (drop a text))) (drop a text) ≡ drop r text
+  pub behind-is : (r : ℕ) → r ≡ min (a + lineEnd (drop a text) + 1) (length text) → drop (suc (lineEnd (drop a text))) (drop a text) ≡ drop r text
   behind-is r e = drop-drop (suc (lineEnd (drop a text))) a text ∙ by (ltb (a + lineEnd (drop a text)) (length text)) refl
     where
       by : (t : Bool) → ltb (a + lineEnd (drop a text)) (length text) ≡ t → drop (a + suc (lineEnd (drop a text))) text ≡ drop r text
@@ -209,7 +209,7 @@ unfolding push kept
 kept-more line b = rw (push-text 40 line b, push-count 40 line b)
 
 -- a line of more than 40 bytes is missed, whichever it is
-event-long : (line : List ℕ) → 40 < length line → event line ≡ event (zeros 41)
+pub event-long : (line : List ℕ) → 40 < length line → event line ≡ event (zeros 41)
 unfolding event isFrame
 event-long line h = rw (ne-eqb (length line) 40 (λ e. omega arith))
 

@@ -1,4 +1,4 @@
--- What begin promises of the file and the words is what running asks.
+-- What begin promises of the file and the words is what playing asks.
 use borrow.Author.Needs.{needs}
 use Rattle.player.proofs.open.Statement.{statement}
 use Rattle.player.proofs.open.Tie as tie
@@ -45,20 +45,26 @@ slice-aggregate-write c = search needs
 write-requires : tie.Need-write-requires
 write-requires c κs = search needs
 
+slice-aggregate-fail-2 : tie.Need-slice-aggregate-fail-2
+slice-aggregate-fail-2 c = search needs
+
+fail-requires-2 : tie.Need-fail-requires-2
+fail-requires-2 c κs = search needs
+
 returns-2 : tie.Need-returns-2
 returns-2 c = search needs
 
-slice-aggregate-run : tie.Need-slice-aggregate-run
-slice-aggregate-run c = search needs
+slice-aggregate-play : tie.Need-slice-aggregate-play
+slice-aggregate-play c = search needs
 
 array-share-prefix-file-2 : tie.Need-array-share-prefix-file-2
 array-share-prefix-file-2 c = search needs
 
-slice-aggregate-run-2 : tie.Need-slice-aggregate-run-2
-slice-aggregate-run-2 c = search needs
+slice-aggregate-play-2 : tie.Need-slice-aggregate-play-2
+slice-aggregate-play-2 c = search needs
 
-run-requires : tie.Need-run-requires
-run-requires c κs = c .before .before .before .before .before .before .before .before .before .begin .ensures .1 .1 .1 .0 (c .before .before .if3 .taken)
+play-requires : tie.Need-play-requires
+play-requires c κs = c .before .before .before .before .before .before .before .before .before .begin .ensures .1 .1 .1 .0 (c .before .before .if3 .taken)
 
 returns-3 : tie.Need-returns-3
 returns-3 c = search needs
@@ -84,10 +90,12 @@ open-spec =
     array-share-prefix-room
     slice-aggregate-write
     write-requires
+    slice-aggregate-fail-2
+    fail-requires-2
     returns-2
-    slice-aggregate-run
+    slice-aggregate-play
     array-share-prefix-file-2
-    slice-aggregate-run-2
-    run-requires
+    slice-aggregate-play-2
+    play-requires
     returns-3
     returns-4)

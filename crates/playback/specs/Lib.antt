@@ -1,0 +1,4 @@
+pub mod Playback
+pub mod Worked
+pub mod Turns
+pub mod Told

@@ -1,0 +1,469 @@
+// Playing a recording by commands, turn by turn: each turn writes one frame's line, or takes in one command's line and writes what it is answered.
+ghost use mathlib.Core.Path.{_≡_};
+ghost use mathlib.Core.List.{[]};
+ghost use Prim.Native.Nat.{_≤_, _<_};
+ghost use lib.Dec.{ltb};
+ghost use lib.ListN.{length};
+ghost use Rattle.io.specs.Counts.{Counts};
+ghost use Rattle.stream.specs.Decimal.{figure};
+ghost use Rattle.stream.specs.Machine.{fedAll};
+ghost use Rattle.hex.specs.File as File;
+ghost use Rattle.hex.specs.Held as Held;
+ghost use Rattle.recording.specs.Feed as Feed;
+ghost use Rattle.shelf.specs.Shelf as Shelf;
+ghost use Rattle.shelf.specs.Shelf.{number, slotsAfter};
+ghost use Rattle.playback.specs.Playback as Playback;
+ghost use Rattle.playback.specs.Turns as Turns;
+use celp::State;
+use commands::Command;
+use hex::Line;
+use seek::Sought;
+use shelf::SLOTS;
+use slots::Records;
+use slots::Slot;
+
+// What is left to play: the state before the next frame, the place of its line in the recording, and how many frames are asked for.
+pub struct Cue {
+    pub state: State,
+    pub place: usize,
+    pub left: u32,
+}
+
+// Where the player stands: the records of the shelf, the line that is coming in, what is left to play, and whether all is told.
+pub struct Player {
+    pub slots: [Slot; 16],
+    pub line: Line,
+    pub cue: Cue,
+    pub told: bool,
+}
+
+// What a turn leaves, how many bytes of its chunk it used, and how long its text is.
+pub struct Turned {
+    pub player: Player,
+    pub used: usize,
+    pub n: usize,
+}
+
+// What a command leaves: the records and what is to be played, and how long its text is.
+struct Obeyed {
+    slots: [Slot; 16],
+    cue: Cue,
+    n: usize,
+}
+
+// What a frame leaves, and how long its text is.
+struct Played {
+    cue: Cue,
+    n: usize,
+}
+
+// Nothing to play.
+fn silence() -> Cue
+    ensures { λ r. ⌜ r ≡ Turns.silence ⌝ }
+{
+    Cue {
+        state: celp::all_zero(),
+        place: 0,
+        left: 0,
+    }
+}
+
+// Before the first turn.
+pub fn start() -> Player
+    ensures { λ r. ⌜ r ≡ Turns.start ⌝ }
+{
+    let none = Slot { users: 0, frame: 0 };
+    Player {
+        slots: [none; 16],
+        line: hex::empty(),
+        cue: silence(),
+        told: false,
+    }
+}
+
+// Whether a frame is to be played: then the turn asks no input.
+pub fn playing(recording: &[u8], cue: Cue) -> bool
+    ensures { λ r. ⌜ r ≡ ltb 0 (length (Turns.ahead (now (recording .entry)) cue)) ⌝ }
+{
+    if cue.left == 0 {
+        return false;
+    }
+    cue.place < recording.len()
+}
+
+// The next frame: its line, as decode writes it, goes over the beginning of room.
+fn frame(words: &[i16], bytes: &[u8], cue: Cue, recording: &[u8], room: &mut [u8]) -> Played
+    requires { ⌜ 0 < cue .left ⌝ ∗ ⌜ cue .place < length (now recording) ⌝ ∗ ⌜ 1283 ≤ length (now room) ⌝ }
+    ensures { λ r. ⌜ Turns.Plays (now (words .entry)) (now (bytes .entry)) (now (recording .entry)) cue (now (room .entry)) r (now (room .exit)) ⌝ }
+{
+    let state = cue.state;
+    let a = cue.place;
+    let e = forward::line_end(recording, a);
+    let said = recording::call(words, bytes, state, forward::held(&recording[a..e]), room);
+    let next = said.state;
+    Played {
+        cue: Cue {
+            state: next,
+            place: forward::behind(recording, e),
+            left: cue.left - 1,
+        },
+        n: said.n,
+    }
+}
+
+// `refused N`, or where nothing is refused a line of a name and a number.
+fn put_answer(number: u8, name: &[u8], value: u32, room: &mut [u8]) -> usize
+    requires { ⌜ length (now name) ≤ 8 ⌝ ∗ ⌜ 64 ≤ length (now room) ⌝ }
+    ensures { λ r. ⌜ Turns.Put (Playback.answered number (figure (now (name .entry)) value)) (now (room .entry)) r (now (room .exit)) ⌝ }
+{
+    if number != 0 {
+        return stream::put_figure(b"refused ", number as u64, 0, room);
+    }
+    stream::put_figure(name, value as u64, 0, room)
+}
+
+// `frame K mark M`
+fn put_frame_mark(k: u32, mark: u8, room: &mut [u8]) -> usize
+    requires { ⌜ 64 ≤ length (now room) ⌝ }
+    ensures { λ r. ⌜ Turns.Put (Playback.frameMark k mark) (now (room .entry)) r (now (room .exit)) ⌝ }
+{
+    let a = stream::put_at(b"frame ", 0, room);
+    let b = stream::put_decimal(k as u64, a, room);
+    stream::put_figure(b" mark ", mark as u64, b, room)
+}
+
+// The state that is to be saved before frame k: from the best save, or where none is held at or below it from the recording's start.
+fn found(
+    words: &[i16],
+    bytes: &[u8],
+    slots: [Slot; 16],
+    images: &[u8],
+    recording: &[u8],
+    k: u32,
+) -> Sought
+    ensures { λ r. ⌜ r ≡ Playback.found (now (words .entry)) (now (bytes .entry)) (now (recording .entry)) (Turns.shelf slots (now (images .entry))) k ⌝ }
+{
+    let r = Records {
+        count: SLOTS,
+        slots,
+    };
+    if seek::best(r, k) < SLOTS {
+        return seek::seek_by_value(words, bytes, slots, images, recording, k);
+    }
+    if forward::has_frame(recording, k) {
+        return Sought {
+            number: 0,
+            state: forward::before(words, bytes, recording, k),
+        };
+    }
+    Sought {
+        number: 15,
+        state: celp::all_zero(),
+    }
+}
+
+// A state is saved, or the refusal of what was looked for is told.
+fn keep(s: Sought, slots: [Slot; 16], images: &mut [u8], k: u32, room: &mut [u8]) -> Obeyed
+    requires { ⌜ 64 ≤ length (now room) ⌝ }
+    ensures { λ r. ⌜ Turns.Quiet (Playback.saveLeft (Turns.shelf slots (now (images .entry))) k s .slots) (Playback.saveSaid (Turns.shelf slots (now (images .entry))) k s) (now (room .entry)) r (now (room .exit)) ⌝ }
+    ensures { λ _. ⌜ now (images .exit) ≡ Playback.saveLeft (Turns.shelf slots (now (images .entry))) k s .images ⌝ }
+{
+    let number = s.number;
+    if number != 0 {
+        return Obeyed {
+            slots,
+            cue: silence(),
+            n: put_answer(number, b"saved ", 0, room),
+        };
+    }
+    let state = s.state;
+    let a = shelf::save_by_value(slots, images, state, k);
+    let answer = a.answer;
+    let after = a.slots;
+    Obeyed {
+        slots: after,
+        cue: silence(),
+        n: put_answer(answer.number, b"saved ", answer.slot, room),
+    }
+}
+
+// `save K`
+fn save(
+    words: &[i16],
+    bytes: &[u8],
+    slots: [Slot; 16],
+    images: &mut [u8],
+    recording: &[u8],
+    k: u32,
+    room: &mut [u8],
+) -> Obeyed
+    requires { ⌜ 64 ≤ length (now room) ⌝ }
+    ensures { λ r. ⌜ Turns.Quiet (Playback.saveLeft (Turns.shelf slots (now (images .entry))) k (Playback.found (now (words .entry)) (now (bytes .entry)) (now (recording .entry)) (Turns.shelf slots (now (images .entry))) k) .slots) (Playback.saveSaid (Turns.shelf slots (now (images .entry))) k (Playback.found (now (words .entry)) (now (bytes .entry)) (now (recording .entry)) (Turns.shelf slots (now (images .entry))) k)) (now (room .entry)) r (now (room .exit)) ⌝ }
+    ensures { λ _. ⌜ now (images .exit) ≡ Playback.saveLeft (Turns.shelf slots (now (images .entry))) k (Playback.found (now (words .entry)) (now (bytes .entry)) (now (recording .entry)) (Turns.shelf slots (now (images .entry))) k) .images ⌝ }
+{
+    let s = found(words, bytes, slots, images, recording, k);
+    keep(s, slots, images, k, room)
+}
+
+// `hold S`
+fn hold(slots: [Slot; 16], images: &[u8], k: u32, room: &mut [u8]) -> Obeyed
+    requires { ⌜ 64 ≤ length (now room) ⌝ }
+    ensures { λ r. ⌜ Turns.Quiet (slotsAfter (Shelf.hold slots (length (now (images .entry))) k) slots) (Playback.answered (number (Shelf.hold slots (length (now (images .entry))) k)) (figure Playback.heldWord k)) (now (room .entry)) r (now (room .exit)) ⌝ }
+{
+    let a = shelf::hold_by_value(slots, images, k);
+    let number = a.number;
+    let after = a.slots;
+    Obeyed {
+        slots: after,
+        cue: silence(),
+        n: put_answer(number, b"held ", k, room),
+    }
+}
+
+// `let go S`
+fn let_go(slots: [Slot; 16], images: &[u8], k: u32, room: &mut [u8]) -> Obeyed
+    requires { ⌜ 64 ≤ length (now room) ⌝ }
+    ensures { λ r. ⌜ Turns.Quiet (slotsAfter (Shelf.letGo slots (length (now (images .entry))) k) slots) (Playback.answered (number (Shelf.letGo slots (length (now (images .entry))) k)) (figure Playback.letGoWord k)) (now (room .entry)) r (now (room .exit)) ⌝ }
+{
+    let a = shelf::let_go_by_value(slots, images, k);
+    let number = a.number;
+    let after = a.slots;
+    Obeyed {
+        slots: after,
+        cue: silence(),
+        n: put_answer(number, b"let go ", k, room),
+    }
+}
+
+// `seek K`, of what was found
+fn tell(s: Sought, slots: [Slot; 16], k: u32, room: &mut [u8]) -> Obeyed
+    requires { ⌜ 64 ≤ length (now room) ⌝ }
+    ensures { λ r. ⌜ Turns.Quiet slots (Playback.answered (s .number) (Playback.frameMark k (s .state .mark))) (now (room .entry)) r (now (room .exit)) ⌝ }
+{
+    let number = s.number;
+    if number != 0 {
+        return Obeyed {
+            slots,
+            cue: silence(),
+            n: put_answer(number, b"frame ", 0, room),
+        };
+    }
+    let state = s.state;
+    Obeyed {
+        slots,
+        cue: silence(),
+        n: put_frame_mark(k, state.mark, room),
+    }
+}
+
+// `play K N`, of what was found: the frames are left to play.
+fn begin_play(
+    s: Sought,
+    slots: [Slot; 16],
+    recording: &[u8],
+    k: u32,
+    n: u32,
+    room: &mut [u8],
+) -> Obeyed
+    requires { ⌜ 64 ≤ length (now room) ⌝ }
+    ensures { λ r. ⌜ Turns.Cues slots (now (recording .entry)) (Turns.cued (now (recording .entry)) s k n) (Playback.answered (s .number) []) (now (room .entry)) r (now (room .exit)) ⌝ }
+{
+    let number = s.number;
+    if number != 0 {
+        return Obeyed {
+            slots,
+            cue: silence(),
+            n: put_answer(number, b"frame ", 0, room),
+        };
+    }
+    let state = s.state;
+    Obeyed {
+        slots,
+        cue: Cue {
+            state,
+            place: forward::place_of(recording, k),
+            left: n,
+        },
+        n: 0,
+    }
+}
+
+// A command that is none.
+fn wonder(slots: [Slot; 16], room: &mut [u8]) -> Obeyed
+    requires { ⌜ 64 ≤ length (now room) ⌝ }
+    ensures { λ r. ⌜ Turns.Quiet slots Playback.unknownLine (now (room .entry)) r (now (room .exit)) ⌝ }
+{
+    stream::put(b"unknown\n", room);
+    Obeyed {
+        slots,
+        cue: silence(),
+        n: 8,
+    }
+}
+
+// A command: its text goes over the beginning of room, but for the frames that it leaves to play.
+fn obey(
+    words: &[i16],
+    bytes: &[u8],
+    slots: [Slot; 16],
+    images: &mut [u8],
+    recording: &[u8],
+    c: Command,
+    room: &mut [u8],
+) -> Obeyed
+    requires { ⌜ 64 ≤ length (now room) ⌝ }
+    ensures { λ r. ⌜ Turns.Obeys (now (words .entry)) (now (bytes .entry)) (now (recording .entry)) (Turns.shelf slots (now (images .entry))) c (now (room .entry)) r (now (images .exit)) (now (room .exit)) ⌝ }
+{
+    if c.kind == commands::SAVE {
+        return save(words, bytes, slots, images, recording, c.k, room);
+    }
+    if c.kind == commands::HOLD {
+        return hold(slots, images, c.k, room);
+    }
+    if c.kind == commands::LET_GO {
+        return let_go(slots, images, c.k, room);
+    }
+    if c.kind == commands::SEEK {
+        let s = seek::seek_by_value(words, bytes, slots, images, recording, c.k);
+        return tell(s, slots, c.k, room);
+    }
+    if c.kind == commands::PLAY {
+        let s = seek::seek_by_value(words, bytes, slots, images, recording, c.k);
+        return begin_play(s, slots, recording, c.k, c.n, room);
+    }
+    wonder(slots, room)
+}
+
+// The end of a line, with so many bytes used.
+fn end_line(
+    words: &[i16],
+    bytes: &[u8],
+    slots: [Slot; 16],
+    images: &mut [u8],
+    recording: &[u8],
+    line: Line,
+    used: usize,
+    room: &mut [u8],
+) -> Turned
+    requires { ⌜ 64 ≤ length (now room) ⌝ }
+    ensures { λ r. ⌜ Turns.Took (now (recording .entry)) (Turns.ends (now (words .entry)) (now (bytes .entry)) (now (recording .entry)) (Turns.shelf slots (now (images .entry))) line used) (now (room .entry)) r (now (images .exit)) (now (room .exit)) ⌝ }
+{
+    let done = obey(
+        words,
+        bytes,
+        slots,
+        images,
+        recording,
+        commands::read(line),
+        room,
+    );
+    let after = done.slots;
+    let next = done.cue;
+    Turned {
+        player: Player {
+            slots: after,
+            line: hex::empty(),
+            cue: next,
+            told: false,
+        },
+        used,
+        n: done.n,
+    }
+}
+
+// A line with more bytes.
+fn push_all(line: Line, part: &[u8]) -> Line
+    ensures { λ r. ⌜ r ≡ fedAll Held.push line (now (part .entry)) ⌝ }
+{
+    let mut l = line;
+    let mut i = 0;
+    while i < part.len() {
+        l = hex::push(l, part[i]);
+        i += 1;
+    }
+    l
+}
+
+// What is unread of the input, nothing being its end: up to a newline it is taken in, and at a line's end its command is obeyed.
+fn take(
+    words: &[i16],
+    bytes: &[u8],
+    p: Player,
+    images: &mut [u8],
+    recording: &[u8],
+    chunk: &[u8],
+    room: &mut [u8],
+) -> Turned
+    requires { ⌜ 64 ≤ length (now room) ⌝ }
+    ensures took { λ r. ⌜ Turns.Took (now (recording .entry)) (Turns.takes (now (words .entry)) (now (bytes .entry)) (now (recording .entry)) (Turns.seen (now (recording .entry)) p (now (images .entry))) (now (chunk .entry))) (now (room .entry)) r (now (images .exit)) (now (room .exit)) ⌝ }
+    ensures used { λ r. ⌜ r .used ≤ length (now (chunk .entry)) ⌝ }
+{
+    let slots = p.slots;
+    let line = p.line;
+    let cue = p.cue;
+    if chunk.len() == 0 {
+        if line.n == 0 {
+            return Turned {
+                player: Player {
+                    slots,
+                    line,
+                    cue,
+                    told: true,
+                },
+                used: 0,
+                n: 0,
+            };
+        }
+        return end_line(words, bytes, slots, images, recording, line, 0, room);
+    }
+    let k = forward::line_end(chunk, 0);
+    let more = push_all(line, &chunk[..k]);
+    if k == chunk.len() {
+        return Turned {
+            player: Player {
+                slots,
+                line: more,
+                cue,
+                told: false,
+            },
+            used: k,
+            n: 0,
+        };
+    }
+    end_line(words, bytes, slots, images, recording, more, k + 1, room)
+}
+
+// A turn: a frame of those that are left to play or, where none is, what is unread of the input, nothing being its end. Its text goes over the beginning of room.
+pub fn turn(
+    words: &[i16],
+    file: &[u8],
+    p: Player,
+    images: &mut [u8],
+    recording: &[u8],
+    chunk: &[u8],
+    room: &mut [u8],
+) -> Turned
+    requires { ⌜ Feed.Tables (now words) (now file) ⌝ ∗ ⌜ 1283 ≤ length (now room) ⌝ }
+    ensures took { λ r. ⌜ Turns.Took (now (recording .entry)) (Turns.turn (File.words (now (file .entry))) (File.bytes (now (file .entry))) (now (recording .entry)) (Turns.seen (now (recording .entry)) p (now (images .entry))) (now (chunk .entry))) (now (room .entry)) r (now (images .exit)) (now (room .exit)) ⌝ }
+    ensures fits { λ r. ⌜ Counts (r .n) (now (room .exit)) ⌝ }
+    ensures used { λ r. ⌜ r .used ≤ length (now (chunk .entry)) ⌝ }
+{
+    let slots = p.slots;
+    let line = p.line;
+    let cue = p.cue;
+    if playing(recording, cue) {
+        let f = frame(words, &file[11926..], cue, recording, room);
+        let next = f.cue;
+        return Turned {
+            player: Player {
+                slots,
+                line,
+                cue: next,
+                told: false,
+            },
+            used: 0,
+            n: f.n,
+        };
+    }
+    take(words, &file[11926..], p, images, recording, chunk, room)
+}
