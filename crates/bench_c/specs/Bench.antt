@@ -4,10 +4,10 @@ use Prim.Native.Nat.{ℕ, _*_}
 use lib.IntN.{ℤ}
 use lib.ListN.{take, drop}
 use Rattle.sequence.specs.Repeated.{repeated}
-use Rattle.celp.specs.declared.State.{State}
-use Rattle.celp.specs.State.{reset}
-use Rattle.celp.specs.Celp as Celp
-use Rattle.celp.specs.Frames as Frames
+use Rattle.state.specs.declared.State.{State}
+use Rattle.state.specs.State.{reset}
+use Rattle.calls.specs.Celp as Celp
+use Rattle.calls.specs.Frames as Frames
 
 -- the k-th part, of so many bytes
 abbrev pub part : ℕ → List ℕ → ℕ → List ℕ

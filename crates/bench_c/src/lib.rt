@@ -19,7 +19,7 @@ pub extern "C" fn bench_run(words: &[i16], bytes: &[u8], frames: &[u8], samples:
     ensures mark { λ r. ⌜ r ≡ Bench.after (now (words .entry)) (now (bytes .entry)) (now (frames .entry)) (length (now (samples .entry))) (length (now (frames .entry)) / 20) .mark ⌝ }
     ensures samples { λ _. ⌜ now (samples .exit) ≡ Bench.samples (now (words .entry)) (now (bytes .entry)) (now (frames .entry)) (length (now (samples .entry))) (now (samples .entry)) (length (now (frames .entry)) / 20) ⌝ }
 {
-    let start = celp::reset(words, bytes);
+    let start = state::reset(words, bytes);
     let mut state = start.state;
     let n = frames.len() / 20;
     for k in 0..n {
@@ -48,7 +48,7 @@ pub extern "C" fn bench_frames(
     ensures samples { λ _. ⌜ now (samples .exit) ≡ Bench.samplesParts (now (words .entry)) (now (bytes .entry)) size (now (frames .entry)) (length (now (samples .entry))) (length (now (numbers .entry))) (now (samples .entry)) n ⌝ }
     ensures numbers { λ _. ⌜ now (numbers .exit) ≡ Bench.numbersParts (now (words .entry)) (now (bytes .entry)) size (now (frames .entry)) (length (now (samples .entry))) (length (now (numbers .entry))) (now (numbers .entry)) n ⌝ }
 {
-    let start = celp::reset(words, bytes);
+    let start = state::reset(words, bytes);
     let mut state = start.state;
     for k in 0..n {
         let at = size * k;

@@ -9,14 +9,16 @@ use lib.ListN.{length, take}
 use lib.Seq.{take-all}
 use borrow.Author.Tests.{eq-eqb, ne-eqb, leb-true, leb-false}
 use Rattle.stream.specs.Machine.{fedAll}
-use Rattle.recording.specs.declared.Recorder.{Recorder}
+use Rattle.heard.specs.declared.Recorder.{Recorder}
 use Rattle.recording.specs.declared.Fed.{Fed}
 use Rattle.recording.specs.Feed as Feed
 use Rattle.stream.specs.Lines.{pieces}
+use Rattle.verdict.specs.Verdict.{next}
+use Rattle.verdict.specs.Kept.{kept, pushed}
+use Rattle.verdict.specs.Round.{upTo, round, last}
+use Rattle.verdict.specs.Length.{round-long}
 use Rattle.beside.specs.declared.Judge.{Judge}
-use Rattle.beside.specs.Beside.{next}
-use Rattle.beside.specs.Kept.{kept, pushed}
-use Rattle.beside.specs.Talk.{upTo, oursText, closed, hearOurs, round, last, endText, again, final, ended, keptWith, more, hearTheirs, theirsHeld, theirsText}
+use Rattle.beside.specs.Talk.{oursText, closed, hearOurs, endText, again, final, ended, keptWith, more, hearTheirs, theirsHeld, theirsText}
 
 module _ (file : List ℕ) (j : Judge) (chunk : List ℕ) {k : ℕ} (u : k ≡ upTo chunk) where
   pub ours-none : k ≡ 0 → {fed : Fed} → fed ≡ Feed.answered file (j .recorder) (take k chunk) → {over : Recorder} → over ≡ closed (fed .recorder) → record { judge = record { recorder = over; number = j .number; said = fed .n; n = j .n; theirs = true; told = j .told }; used = 0; n = 0 } ≡ hearOurs file j chunk
@@ -80,3 +82,8 @@ module _ (j : Judge) (text held chunk : List ℕ) where
       pub text-line : endText (more j n) text after ≡ theirsText j text held chunk
       unfolding theirsText keptWith
       text-line = rw (count, line, ne-eqb (length chunk) 0 some, ← first, ne-eqb k (length chunk) h)
+
+-- how long what is told at the end of a line is
+pub end-long : (j : Judge) (text held : List ℕ) → length (endText j text held) ≤ 98
+unfolding endText
+end-long j text held = round-long (j .number) (take (j .said) text) (take (j .n) held) (leb (j .n) 1283)

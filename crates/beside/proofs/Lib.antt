@@ -1,3 +1,1 @@
-mod Ends
-mod Texts
 mod Calls

@@ -1,9 +1,5 @@
 pub mod Beside
-pub mod Worked
-pub mod Same
-pub mod Kept
 pub mod Talk
 pub mod Long
 pub mod Spoken
-pub mod Agreed
-pub mod Differs
+pub mod Named

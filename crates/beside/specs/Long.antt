@@ -16,18 +16,18 @@ use Rattle.bits.specs.declared.FrameParams.{FrameParams}
 use Rattle.bits.specs.Bits.{fieldsOf}
 use Rattle.synth.specs.Synth as Synth
 use Rattle.postfilter.specs.Postfilter.{length-outputs}
-use Rattle.core.specs.declared.Core.{Core}
-use Rattle.core.specs.declared.SubframeTrace.{SubframeTrace}
-use Rattle.core.specs.Core as HalfFrame
+use Rattle.half.specs.declared.Core.{Core}
+use Rattle.half.specs.declared.SubframeTrace.{SubframeTrace}
+use Rattle.half.specs.Core as HalfFrame
 use Rattle.frame.specs.Frame as Frame
 use Rattle.tables.specs.Tables.{check, unsigned}
-use Rattle.celp.specs.declared.State.{State}
-use Rattle.celp.specs.State as Start
-use Rattle.celp.specs.Celp as Celp
-use Rattle.celp.specs.Run.{Event, heard, missed, step}
+use Rattle.state.specs.declared.State.{State}
+use Rattle.state.specs.State as Start
+use Rattle.calls.specs.Celp as Celp
+use Rattle.calls.specs.Run.{Event, heard, missed, step}
 use Rattle.hex.specs.Text.{digit, fourDigits, sampleText, frameText, refusedText}
 use Rattle.hex.specs.Lengths.{text-long}
-use Rattle.recording.specs.Recording.{event, blank, answerText, text, lineStep, lineText}
+use Rattle.heard.specs.Recording.{event, blank, answerText, text, lineStep, lineText}
 
 -- ---- the synthesis filter
 window-long : (a m xs : List ℤ) (n : ℕ) → length (Synth.window a m xs n) ≡ length m + n

@@ -19,17 +19,20 @@ use Rattle.stream.specs.Reads.{Read, inputOf, answers-joined}
 use Rattle.stream.specs.Reads as Reads
 use Rattle.hex.specs.Held as Held
 use Rattle.hex.specs.File as File
-use Rattle.celp.specs.State as Start
-use Rattle.celp.specs.declared.State.{State}
-use Rattle.recording.specs.declared.Recorder.{Recorder}
-use Rattle.recording.specs.Recording.{transcript, isStart, lineStep, lineText, tablesText}
+use Rattle.state.specs.State as Start
+use Rattle.state.specs.declared.State.{State}
+use Rattle.heard.specs.declared.Recorder.{Recorder}
+use Rattle.heard.specs.Recording.{transcript, isStart, lineStep, lineText, tablesText}
+use Rattle.heard.specs.Start as Begin
 use Rattle.recording.specs.Feed as Feed
+use Rattle.verdict.specs.Verdict.{same, isFrame, isRefusal, known, head, says, what, refusal, sixteen, difference, added, next, judge}
+use Rattle.verdict.specs.Same.{same-not}
+use Rattle.verdict.specs.Kept.{Kept, kept, Keeps, keeps-none, keeps-all}
+use Rattle.verdict.specs.Round.{upTo, round, last}
 use Rattle.beside.specs.declared.Judge.{Judge}
 use Rattle.beside.specs.declared.Heard.{Heard}
-use Rattle.beside.specs.Beside.{same, isFrame, isRefusal, known, head, says, what, refusal, sixteen, difference, added, next, judge, output, program}
-use Rattle.beside.specs.Same.{same-not}
-use Rattle.beside.specs.Kept.{Kept, kept, Keeps, keeps-none, keeps-all}
-use Rattle.beside.specs.Talk.{begin, upTo, oursText, closed, hearOurs, round, last, endText, again, final, ended, keptWith, more, hearTheirs, theirsHeld, theirsText}
+use Rattle.beside.specs.Beside.{output, program}
+use Rattle.beside.specs.Talk.{begin, oursText, closed, hearOurs, endText, again, final, ended, keptWith, more, hearTheirs, theirsHeld, theirsText}
 use Rattle.beside.specs.Long.{Ten, reset-ten, cold-ten, line-ten, One, line-one}
 
 -- ---- where a comparison stands, with what the lent buffers hold
@@ -612,31 +615,31 @@ unfolding inputOf one-read
 one-input [] = refl
 one-input (x ∷ xs) = append-nil (x ∷ xs)
 
-told-whole : (file l : List ℕ) → wrote file (Feed.begin (File.words file) (File.bytes file)) l ++ ending file (fedAll (fed file) (Feed.begin (File.words file) (File.bytes file)) l) ≡ transcript (File.words file) (File.bytes file) l
+told-whole : (file l : List ℕ) → wrote file (Begin.begin (File.words file) (File.bytes file)) l ++ ending file (fedAll (fed file) (Begin.begin (File.words file) (File.bytes file)) l) ≡ transcript (File.words file) (File.bytes file) l
 told-whole file l =
-    ap (λ (x : List ℕ). wrote file (Feed.begin (File.words file) (File.bytes file)) x ++ ending file (fedAll (fed file) (Feed.begin (File.words file) (File.bytes file)) x)) (sym (one-input l))
-    ∙ sym (answers-joined (fed file) (written file) (ending file) (Feed.begin (File.words file) (File.bytes file)) (one-read l))
+    ap (λ (x : List ℕ). wrote file (Begin.begin (File.words file) (File.bytes file)) x ++ ending file (fedAll (fed file) (Begin.begin (File.words file) (File.bytes file)) x)) (sym (one-input l))
+    ∙ sym (answers-joined (fed file) (written file) (ending file) (Begin.begin (File.words file) (File.bytes file)) (one-read l))
     ∙ Feed.transcript-told (File.words file) (File.bytes file) (one-read l)
     ∙ ap (transcript (File.words file) (File.bytes file)) (one-input l)
 
 -- ---- THE PROGRAM, as its calls promise it: the start's text and, where that is no refusal, what is told of any turns, of which there are enough
 module _ (file recording supplier : List ℕ) (sizes text held : List ℕ) where
   unfoldable pub compared : List ℕ
-  compared = Feed.startText file ++ cond (eqb (Feed.started file .number) 0) (spoken file sizes (record { judge = begin (Feed.started file .recorder); text = text; held = held }) recording supplier) []
+  compared = Begin.startText file ++ cond (eqb (Begin.started file .number) 0) (spoken file sizes (record { judge = begin (Begin.started file .recorder); text = text; held = held }) recording supplier) []
 
   module _ (long : length held ≡ 1283) (enough : length recording + 3 * length supplier + 2 ≤ length sizes) where
     began : Recorder
-    began = Feed.begin (File.words file) (File.bytes file)
+    began = Begin.begin (File.words file) (File.bytes file)
 
-    opening : Ours file (record { judge = begin (Feed.begin (File.words file) (File.bytes file)); text = text; held = held }) recording (lines (transcript (File.words file) (File.bytes file) recording))
-    unfolding begin Feed.begin
+    opening : Ours file (record { judge = begin (Begin.begin (File.words file) (File.bytes file)); text = text; held = held }) recording (lines (transcript (File.words file) (File.bytes file) recording))
+    unfolding begin Begin.begin
     opening = record { turn = refl; untold = refl; ten = cold-ten (File.words file) (File.bytes file); none = refl; long = long; are = ap lines (sym (told-whole file recording)) }
 
-    by-number : (n : ℕ) → Feed.startTextBy n file ++ cond (eqb (Feed.startedBy n file .number) 0) (spoken file sizes (record { judge = begin (Feed.startedBy n file .recorder); text = text; held = held }) recording supplier) [] ≡ output n file recording supplier
-    unfolding Feed.startTextBy Feed.startedBy output begin
+    by-number : (n : ℕ) → Begin.startTextBy n file ++ cond (eqb (Begin.startedBy n file .number) 0) (spoken file sizes (record { judge = begin (Begin.startedBy n file .recorder); text = text; held = held }) recording supplier) [] ≡ output n file recording supplier
+    unfolding Begin.startTextBy Begin.startedBy output begin
     by-number zero = any-turns file sizes .0 _ recording supplier _ opening enough
     by-number (suc n) = rw (ne-eqb (suc n) 0 (λ e. omega arith)) (append-nil (tablesText (suc n) file))
 
     pub program-told : compared ≡ program file recording supplier
-    unfolding compared program Feed.startText Feed.started
+    unfolding compared program Begin.startText Begin.started
     program-told = by-number (File.checkFile file)

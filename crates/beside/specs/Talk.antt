@@ -1,28 +1,25 @@
 -- The comparison as its calls promise it: each takes what is unread of one of the two inputs, and nothing is that input's end.
-use Prim.Native.Nat.{ℕ, _+_, _-_}
+use Prim.Native.Nat.{ℕ, _+_}
 use mathlib.Core.List.{List, []}
-use mathlib.Core.Bool.{Bool, true, false, cond, _&&_}
+use mathlib.Core.Bool.{true, false, cond}
 use lib.Dec.{eqb, ltb, leb}
 use lib.ListN.{length, take}
 use Rattle.stream.specs.Lines.{pieces}
 use Rattle.stream.specs.Machine.{fedAll}
 use Rattle.hex.specs.Held as Held
-use Rattle.recording.specs.declared.Recorder.{Recorder}
+use Rattle.heard.specs.declared.Recorder.{Recorder}
 use Rattle.recording.specs.Feed as Feed
+use Rattle.verdict.specs.Verdict.{next}
+use Rattle.verdict.specs.Kept.{Kept, kept, pushed}
+use Rattle.verdict.specs.Round.{upTo, round, last}
 use Rattle.beside.specs.declared.Judge.{Judge}
 use Rattle.beside.specs.declared.Heard.{Heard}
-use Rattle.beside.specs.Beside.{same, says, difference, added, missing, agree, next}
-use Rattle.beside.specs.Kept.{Kept, kept, pushed}
 
 unfoldable pub begin : Recorder → Judge
 begin r = record { recorder = r; number = 1; said = 0; n = 0; theirs = false; told = false }
 
 -- ---- the recording
--- how much of a chunk goes up to its first newline, the newline too
-unfoldable pub upTo : List ℕ → ℕ
-upTo chunk = let k : ℕ = length (pieces chunk .first) in cond (ltb k (length chunk)) (k + 1) k
-
--- what that much is answered
+-- what a chunk is answered, up to its first newline
 unfoldable pub oursText : List ℕ → Judge → List ℕ → List ℕ
 oursText file j chunk = Feed.answeredText file (j .recorder) (take (upTo chunk) chunk)
 
@@ -46,16 +43,6 @@ hearOurs file j chunk = record {
 }
 
 -- ---- the supplier's lines
--- a line of theirs beside the text of ours, which is empty where we have none
-unfoldable pub round : ℕ → List ℕ → List ℕ → Bool → List ℕ
-round number text theirs whole =
-    cond (eqb (length text) 0) (added number theirs)
-    (cond (whole && same (take (length text - 1) text) theirs) [] (difference number (take (length text - 1) text) theirs))
-
--- where they have no line more
-unfoldable pub last : ℕ → ℕ → List ℕ
-last number said = cond (eqb said 0) agree (says number missing)
-
 -- what is told at the end of a line
 unfoldable pub endText : Judge → List ℕ → List ℕ → List ℕ
 endText j text held = round (j .number) (take (j .said) text) (take (j .n) held) (leb (j .n) 1283)

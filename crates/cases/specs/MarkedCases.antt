@@ -19,6 +19,8 @@ use Rattle.bits.specs.declared.FrameParams.{FrameParams}
 use Rattle.bits.specs.declared.Unpacked.the-variants.{Fields, Refused}
 use Rattle.lsp.specs.Lsp as Lsp
 use Rattle.lsp.specs.Cases as LspCases
+use Rattle.reflection.specs.Reflection as Levinson
+use Rattle.reflection.specs.Cases as ReflectionCases
 use Rattle.spectral.specs.Spectral as Spectral
 use Rattle.spectral.specs.Cases as SpectralCases
 use Rattle.pitch.specs.Pitch as Pitch
@@ -87,7 +89,7 @@ pub record MarkedCases : Type 0 where
       × (ZERO-FRAME .first .«absolute_pitch» ≡ 0)
       × (ZERO-FRAME .second .«absolute_pitch» ≡ 0)
   -- 14. "Reciprocal of 0 (k = 4096): high half 32,736, exponent 1." It is the case of 0, and its low half is 0
-  pub case-14 : (Lsp.residual (pos 4096) ≡ pos 0)
+  pub case-14 : (Levinson.residual (pos 4096) ≡ pos 0)
       × (Fixed.normalisedReciprocal (pos 0) ≡ Zero (pos (32736 * 65536)) (pos 1))
   -- 15. "Bare set, index 0: ten pulses of 8192 at place 0 leave 16,384." Class 5 has ten pulses
   pub case-15 : Codebook.decode bareWords 0 ≡ record { code = pos 16384 ∷ replicate 79 (pos 0); class = 5 }
@@ -114,7 +116,7 @@ marked-cases =
       case-11 = FloatsCases.case-11;
       case-12 = LspCases.case-12;
       case-13 = BitsCases.case-13;
-      case-14 = (LspCases.residual-4096, FixedCases.case-14);
+      case-14 = (ReflectionCases.residual-4096, FixedCases.case-14);
       case-15 = CodebookCases.case-15;
       last-bytes = λ payload l. (BitsCases.accepted-3f payload l, BitsCases.refused-40 payload l, BitsCases.refused-80 payload l);
     }

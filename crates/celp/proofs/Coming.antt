@@ -9,13 +9,13 @@ use lib.IntN.{ℤ}
 use lib.ListN.{length, take, drop, set, length-set, length-append}
 use lib.Seq.{take-suc-set, take-all, take-at, drop-drop, length-take-le}
 use Rattle.spectral.specs.Kept.{Words16}
-use Rattle.celp.specs.declared.State.{State}
-use Rattle.celp.specs.declared.Answer.{Answer}
-use Rattle.celp.specs.Celp as Celp
-use Rattle.celp.specs.Celp.{decode}
-use Rattle.celp.specs.Run.{step, run}
-use Rattle.celp.specs.StateRule.{Obeying, decode-obeying}
-use Rattle.celp.specs.Frames.{cut, frames, heards, numbers, samples}
+use Rattle.state.specs.declared.State.{State}
+use Rattle.calls.specs.declared.Answer.{Answer}
+use Rattle.calls.specs.Celp as Celp
+use Rattle.calls.specs.Celp.{decode}
+use Rattle.calls.specs.Run.{step, run}
+use Rattle.calls.specs.StateRule.{Obeying, decode-obeying}
+use Rattle.calls.specs.Frames.{cut, frames, heards, numbers, samples}
 
 -- the frames from the k-th of n on
 abbrev pub rest : ℕ → ℕ → List ℕ → List (List ℕ)

@@ -18,12 +18,12 @@ use Rattle.bits.specs.declared.FrameParams.{FrameParams}
 use Rattle.bits.specs.Bits.{unpack, fields, fieldsOf}
 use Rattle.bits.specs.Widths.{InWidths, within-names, fields-within}
 use Rattle.frame.specs.Frame as Frame
-use Rattle.celp.specs.declared.State.{State}
-use Rattle.celp.specs.State.{obeys, fault}
-use Rattle.celp.specs.Celp.{refusal, refused, carried, decoded, accepted, decode, samples}
-use Rattle.celp.specs.Cases.{decode-refused, decode-accepted, samples-refused, samples-accepted}
-use Rattle.celp.specs.Accepted.{accepted-means}
-use Rattle.celp.specs.Checks.{spoilt, refusal-spoilt, spoilt-told}
+use Rattle.state.specs.declared.State.{State}
+use Rattle.state.specs.State.{obeys, fault}
+use Rattle.calls.specs.Celp.{refusal, refused, carried, decoded, accepted, decode, samples}
+use Rattle.calls.specs.Cases.{decode-refused, decode-accepted, samples-refused, samples-accepted}
+use Rattle.calls.specs.Accepted.{accepted-means}
+use Rattle.calls.specs.Checks.{spoilt, refusal-spoilt, spoilt-told}
 
 module _ (words : List ℤ) (bytes : List ℕ) where
   pub wrong-lengths : check words bytes ≡ 1 → (eqb (length words) WORDS && eqb (length bytes) BYTES) ≡ false

@@ -1,7 +1,7 @@
 // Recordings that two_channels is tried on. A line of standard input names a table file and a recording; a heading and what two_channels writes of the two follow.
 ghost use Prim.Native.Nat.{_≤_, _<_};
 ghost use lib.ListN.{length};
-ghost use Rattle.recording.specs.Feed as Start;
+ghost use Rattle.heard.specs.Start as Start;
 use channels::Recorder;
 
 // What one chunk gives, written; an empty one is the end.

@@ -8,10 +8,10 @@ use lib.Dec.{eqb}
 use lib.IntN.{ℤ}
 use lib.ListN.{length, take, drop, set, length-set}
 use Rattle.stream.specs.Room.{over, tail-back}
-use Rattle.celp.specs.State.{missedFrame}
+use Rattle.state.specs.State.{missedFrame}
 use Rattle.hex.specs.Text.{refusedText}
 use Rattle.hex.specs.Held as Hex
-use Rattle.recording.specs.Recording.{lineText}
+use Rattle.heard.specs.Recording.{lineText}
 use Rattle.channels.specs.declared.Pair.{Pair}
 use Rattle.channels.specs.declared.Held.{Held}
 use Rattle.channels.specs.declared.Whose.{Whose}

@@ -7,11 +7,11 @@ use lib.IntN.{ℤ}
 use lib.ListN.{drop}
 use Rattle.stream.specs.Lines.{lines}
 use Rattle.stream.specs.Told.{after}
-use Rattle.celp.specs.declared.State.{State}
-use Rattle.celp.specs.Run.{Event, missed, run}
-use Rattle.celp.specs.Run as Run
-use Rattle.recording.specs.Recording.{event, lineStep, lineText}
-use Rattle.recording.specs.Recording as Recording
+use Rattle.state.specs.declared.State.{State}
+use Rattle.calls.specs.Run.{Event, missed, run}
+use Rattle.calls.specs.Run as Run
+use Rattle.heard.specs.Recording.{event, lineStep, lineText}
+use Rattle.heard.specs.Recording as Recording
 use Rattle.channels.specs.declared.Pair.{Pair}
 use Rattle.channels.specs.declared.Whose.{Whose}
 use Rattle.channels.specs.declared.Whose.the-variants.{A, B, Neither}

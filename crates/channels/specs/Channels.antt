@@ -11,10 +11,10 @@ use lib.Seq.{take-all}
 use borrow.Author.Tests.{ltb-true, ltb-false, ne-eqb}
 use Rattle.stream.specs.Lines.{lines}
 use Rattle.stream.specs.Told.{texts}
-use Rattle.celp.specs.State.{fault, coldStart, missedFrame}
+use Rattle.state.specs.State.{fault, coldStart, missedFrame}
 use Rattle.hex.specs.Text.{refusedText}
 use Rattle.hex.specs.File as File
-use Rattle.recording.specs.Recording.{lineStep, lineText, tablesText}
+use Rattle.heard.specs.Recording.{lineStep, lineText, tablesText}
 use Rattle.channels.specs.declared.Pair.{Pair}
 use Rattle.channels.specs.declared.Whose.{Whose}
 use Rattle.channels.specs.declared.Whose.the-variants.{A, B, Neither}

@@ -13,14 +13,14 @@ use Rattle.stream.specs.Machine.{fedAll, writtenAll, Streamed, streamed-most}
 use Rattle.stream.specs.Reads.{Read, inputOf, answers, Took}
 use Rattle.stream.specs.Reads as Reads
 use Rattle.stream.specs.Told.{told, last, Machine, reads-told}
-use Rattle.celp.specs.declared.State.{State}
+use Rattle.state.specs.declared.State.{State}
 use Rattle.hex.specs.declared.Line.{Line}
 use Rattle.hex.specs.Text.{isFrame}
 use Rattle.hex.specs.Held as Hex
 use Rattle.hex.specs.File as File
-use Rattle.recording.specs.declared.Said.{Said}
-use Rattle.recording.specs.Recording.{event, lineStep, lineText, tablesText}
-use Rattle.recording.specs.Feed as Start
+use Rattle.heard.specs.declared.Said.{Said}
+use Rattle.heard.specs.Recording.{event, lineStep, lineText, tablesText}
+use Rattle.heard.specs.Start as Start
 use Rattle.channels.specs.declared.Pair.{Pair}
 use Rattle.channels.specs.declared.Held.{Held}
 use Rattle.channels.specs.declared.Recorder.{Recorder}
@@ -191,7 +191,7 @@ other-paid l b = by (l .n) refl
     by (suc (suc k)) e = let p = push-one 40 (l .rest .n) in rw e (omega arith)
 
 -- ---- the calls of the program, over the table file's bytes
--- the start is recording's, with its state for each channel: the cold one, or of tables that are refused the zero state
+-- the start is heard's, with its state for each channel: the cold one, or of tables that are refused the zero state
 unfoldable pub from : State → Recorder
 from s = standing (record { a = s; b = s }) (kept [])
 

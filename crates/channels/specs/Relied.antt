@@ -6,16 +6,16 @@ use mathlib.Core.Bool.{true}
 use native.Mathlib.Omega.{arith}
 use lib.IntN.{ℤ}
 use lib.ListN.{drop, getD}
-use Rattle.celp.specs.declared.State.{State}
-use Rattle.celp.specs.State.{coldStart}
-use Rattle.celp.specs.Celp.{decode}
-use Rattle.celp.specs.Mark.{mark-missed}
-use Rattle.celp.specs.Receiver.{afterAll, Call, START, Follows, begun, between}
-use Rattle.celp.specs.Relied.{receiver-may-rely, cold-joins}
-use Rattle.celp.specs.Run.{missed}
-use Rattle.celp.specs.Run as Run
+use Rattle.state.specs.declared.State.{State}
+use Rattle.state.specs.State.{coldStart}
+use Rattle.calls.specs.Celp.{decode}
+use Rattle.calls.specs.Mark.{mark-missed}
+use Rattle.calls.specs.Receiver.{afterAll, Call, START, Follows, begun, between}
+use Rattle.calls.specs.Relied.{receiver-may-rely, cold-joins}
+use Rattle.calls.specs.Run.{missed}
+use Rattle.calls.specs.Run as Run
 use Rattle.hex.specs.Text.{isFrame, payload, frameText, refusedText}
-use Rattle.recording.specs.Recording.{lineStep, lineText}
+use Rattle.heard.specs.Recording.{lineStep, lineText}
 use Rattle.recording.specs.Late.{two-line, goes-without, sent-follows, lost-follows}
 use Rattle.channels.specs.declared.Pair.{Pair}
 use Rattle.channels.specs.declared.Whose.{Whose}

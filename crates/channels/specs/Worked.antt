@@ -7,8 +7,8 @@ use lib.ListN.{replicate}
 use Rattle.stream.specs.Lines.{pieces, ofPieces, lines}
 use Rattle.stream.specs.Told.{texts}
 use Rattle.hex.specs.Text.{digit, isFrame, refusedText}
-use Rattle.recording.specs.Recording.{event, lineText}
-use Rattle.recording.specs.Recording as Recording
+use Rattle.heard.specs.Recording.{event, lineText}
+use Rattle.heard.specs.Recording as Recording
 use Rattle.channels.specs.declared.Whose.the-variants.{A, B, Neither}
 use Rattle.channels.specs.Channels.{begins, whose, lettered, textBy, step, text, transcript}
 

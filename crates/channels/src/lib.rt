@@ -10,13 +10,13 @@ ghost use Rattle.stream.specs.Machine.{writtenAll};
 ghost use Rattle.hex.specs.File as File;
 ghost use Rattle.hex.specs.Held as Hex;
 ghost use Rattle.hex.specs.Text as Text;
-ghost use Rattle.recording.specs.Recording as Recording;
-ghost use Rattle.recording.specs.Feed as Start;
+ghost use Rattle.heard.specs.Recording as Recording;
+ghost use Rattle.heard.specs.Start as Start;
 ghost use Rattle.channels.specs.Channels as Channels;
 ghost use Rattle.channels.specs.Feed as Feed;
-use celp::State;
+use heard::Said;
 use hex::Line;
-use recording::Said;
+use state::State;
 
 // Whose a line is: the channel's whose letter and a blank it begins with, or neither's.
 pub enum Whose {
@@ -124,7 +124,7 @@ pub fn begin(file: &[u8], words: &mut [i16], room: &mut [u8]) -> Started
     ensures ready { λ r. ⌜ (r .number ≡ 0 → Start.Tables (now (words .exit)) (now (file .entry))) ⌝ }
     ensures fits { λ r. ⌜ Counts (r .n) (now (room .exit)) ⌝ }
 {
-    let start = recording::begin(file, words, room);
+    let start = heard::begin(file, words, room);
     let recorder = start.recorder;
     let state = recorder.state;
     let line = empty();
@@ -148,7 +148,7 @@ fn call(words: &[i16], bytes: &[u8], letter: u8, state: State, line: Line, out: 
 {
     out[0] = letter;
     out[1] = b' ';
-    let said = recording::call(words, bytes, state, line, &mut out[2..]);
+    let said = heard::call(words, bytes, state, line, &mut out[2..]);
     let next = said.state;
     Said {
         n: 2 + said.n,
@@ -196,8 +196,8 @@ fn end_line(words: &[i16], bytes: &[u8], channels: Pair, line: Held, out: &mut [
             }
         }
         Whose::Neither => {
-            let missed_a = recording::missed(a);
-            let missed_b = recording::missed(b);
+            let missed_a = heard::missed(a);
+            let missed_b = heard::missed(b);
             Ended {
                 n: put_neither(out),
                 channels: Pair {

@@ -2,11 +2,11 @@
 ghost use mathlib.Core.Path.{_≡_};
 ghost use Prim.Native.Nat.{_≤_};
 ghost use lib.ListN.{length};
-ghost use Rattle.recording.specs.Feed as Feed;
+ghost use Rattle.heard.specs.Start as Start;
 use beside::Judge;
+use heard::Recorder;
 use libc::STDERR_FILENO;
 use libc::STDIN_FILENO;
-use recording::Recorder;
 
 // What is unread of an input: the bytes of its chunk from one place to another; and whether the input is at its end.
 struct Unread {
@@ -59,7 +59,7 @@ fn ours(
     chunk: &mut [u8],
     text: &mut [u8],
 ) -> Turn
-    requires { ⌜ Feed.Tables (now words) (now file) ⌝ ∗ ⌜ length (now chunk) ≡ 4096 ⌝ ∗ ⌜ (left .at ≤ left .to) × (left .to ≤ 4096) ⌝ ∗ ⌜ length (now text) ≡ 133696 ⌝ ∗ ⌜ judge .said ≤ 133696 ⌝ }
+    requires { ⌜ Start.Tables (now words) (now file) ⌝ ∗ ⌜ length (now chunk) ≡ 4096 ⌝ ∗ ⌜ (left .at ≤ left .to) × (left .to ≤ 4096) ⌝ ∗ ⌜ length (now text) ≡ 133696 ⌝ ∗ ⌜ judge .said ≤ 133696 ⌝ }
     ensures { λ r. ⌜ (r .left .at ≤ r .left .to) × (r .left .to ≤ 4096) ⌝ }
     ensures { λ r. ⌜ r .judge .said ≤ 133696 ⌝ }
 {
@@ -133,7 +133,7 @@ fn take_turn(
     supplied: &mut [u8],
     held: &mut [u8],
 ) -> Stand
-    requires { ⌜ Feed.Tables (now words) (now file) ⌝ ∗ ⌜ length (now recorded) ≡ 4096 ⌝ ∗ ⌜ (length (now text) ≡ 133696) × (length (now held) ≡ 1283) ⌝ ∗ ⌜ length (now supplied) ≡ 4096 ⌝ ∗ ⌜ (stand .judge .said ≤ 133696) × (((stand .mine .at ≤ stand .mine .to) × (stand .mine .to ≤ 4096)) × ((stand .other .at ≤ stand .other .to) × (stand .other .to ≤ 4096))) ⌝ }
+    requires { ⌜ Start.Tables (now words) (now file) ⌝ ∗ ⌜ length (now recorded) ≡ 4096 ⌝ ∗ ⌜ (length (now text) ≡ 133696) × (length (now held) ≡ 1283) ⌝ ∗ ⌜ length (now supplied) ≡ 4096 ⌝ ∗ ⌜ (stand .judge .said ≤ 133696) × (((stand .mine .at ≤ stand .mine .to) × (stand .mine .to ≤ 4096)) × ((stand .other .at ≤ stand .other .to) × (stand .other .to ≤ 4096))) ⌝ }
     ensures { λ r. ⌜ (r .judge .said ≤ 133696) × (((r .mine .at ≤ r .mine .to) × (r .mine .to ≤ 4096)) × ((r .other .at ≤ r .other .to) × (r .other .to ≤ 4096))) ⌝ }
 {
     let judge = stand.judge;
@@ -185,7 +185,7 @@ fn fresh() -> Unread
 // Each turn uses a byte or more, or is at an end. A proved loop has to end and nothing says that an input does, so the turns are
 // counted, as in console.
 fn play(fd: i32, words: &[i16], file: &[u8], recorder: Recorder)
-    requires { ⌜ Feed.Tables (now words) (now file) ⌝ }
+    requires { ⌜ Start.Tables (now words) (now file) ⌝ }
 {
     let mut text = [0u8; 133696];
     let mut held = [0u8; 1283];
@@ -241,7 +241,7 @@ fn main() {
         return;
     }
     let n = got.n;
-    let start = recording::begin(&file[..n], &mut words, &mut room);
+    let start = heard::begin(&file[..n], &mut words, &mut room);
     let m = start.n;
     let put = pipe::write(&room[..m]);
     if put.failed {

@@ -1,7 +1,8 @@
 // The decoding program: open, read, recording's call, write.
+ghost use Rattle.heard.specs.Start as Start;
 ghost use Rattle.recording.specs.Feed as Feed;
+use heard::Recorder;
 use libc::STDERR_FILENO;
-use recording::Recorder;
 
 // Where the recording stands after a read, how long the text was that was written, and whether there may be more.
 struct Turn {
@@ -13,7 +14,7 @@ struct Turn {
 
 // One read, and all the text that it gives.
 fn take_in(words: &[i16], file: &[u8], recorder: Recorder) -> Turn
-    requires { ⌜ Feed.Tables (now words) (now file) ⌝ }
+    requires { ⌜ Start.Tables (now words) (now file) ⌝ }
     ensures { λ r. ⌜ Feed.TookIn (now (file .entry)) recorder (r .recorder) (r .sent) (r .more) (r .failed) ⌝ }
 {
     let mut chunk = io::buffer();
@@ -60,7 +61,7 @@ fn stopped() {
 // Each turn reads a byte or more, or is the last. A proved loop has to end and nothing says that an input does, so the turns are
 // counted. A read takes 50 ns or more, so that 2^64 - 1 of them take 29,000 years; a run that came to their end would say so.
 fn play(words: &[i16], file: &[u8], start: Recorder)
-    requires { ⌜ Feed.Tables (now words) (now file) ⌝ }
+    requires { ⌜ Start.Tables (now words) (now file) ⌝ }
 {
     let mut recorder = start;
     let mut turns = u64::MAX;
@@ -87,7 +88,7 @@ pub fn run() {
         return;
     }
     let n = got.n;
-    let start = recording::begin(&file[..n], &mut words, &mut room);
+    let start = heard::begin(&file[..n], &mut words, &mut room);
     let k = start.n;
     let put = pipe::write(&room[..k]);
     if put.failed {

@@ -5,14 +5,14 @@ use Prim.Native.Nat.{ℕ}
 use lib.IntN.{ℤ}
 use Rattle.bits.specs.declared.HalfParams.{HalfParams}
 use Rattle.postfilter.specs.Postfilter as Postfilter
-use Rattle.core.specs.declared.Core.{Core}
-use Rattle.core.specs.declared.Counts.{Counts}
-use Rattle.core.specs.declared.Filtered.{Filtered}
-use Rattle.core.specs.declared.ParamsPair.{ParamsPair}
-use Rattle.core.specs.declared.Subframe.{Subframe}
-use Rattle.core.specs.declared.Half.{Half}
-use Rattle.core.specs.declared.Synthesised.{Synthesised}
-use Rattle.core.specs.Core as Spec
+use Rattle.half.specs.declared.Core.{Core}
+use Rattle.half.specs.declared.Counts.{Counts}
+use Rattle.half.specs.declared.Filtered.{Filtered}
+use Rattle.half.specs.declared.ParamsPair.{ParamsPair}
+use Rattle.half.specs.declared.Subframe.{Subframe}
+use Rattle.half.specs.declared.Half.{Half}
+use Rattle.half.specs.declared.Synthesised.{Synthesised}
+use Rattle.half.specs.Core as Spec
 
 -- the subframes, and the excitation before, between and behind them
 pub record Subframes (words : List ℤ) (bytes : List ℕ) (core : Core) (lsp : List ℤ) (p : HalfParams) (a b : Subframe) (behind : List ℤ) : Type 0 where

@@ -8,17 +8,17 @@ use lib.IntN.{ℤ, pos}
 use lib.ListN.{length, take, drop, replicate, length-map, length-drop, length-replicate, getD-replicate}
 use lib.Seq.{sets, sets-eq, take-all, drop-length}
 use Rattle.sequence.specs.Table.{table, table-of}
-use Rattle.celp.specs.declared.State.{State}
-use Rattle.celp.specs.declared.Answer.{Answer}
-use Rattle.celp.specs.declared.Returned.{Returned}
-use Rattle.celp.specs.State.{reset, coldStart, missedFrame}
-use Rattle.celp.specs.Celp as Celp
-use Rattle.celp.specs.Frames as Frames
+use Rattle.state.specs.declared.State.{State}
+use Rattle.calls.specs.declared.Answer.{Answer}
+use Rattle.state.specs.declared.Returned.{Returned}
+use Rattle.state.specs.State.{reset, coldStart, missedFrame}
+use Rattle.calls.specs.Celp as Celp
+use Rattle.calls.specs.Frames as Frames
 use Rattle.image.specs.Parts.{numbersAt, length-all}
 use Rattle.image.specs.Image.{signed, unsigned, image, state}
-use Rattle.desk.specs.Images.{refusal-small, image-started, missed-same, missed-image}
-use Rattle.desk.specs.FramesSame.{standing-long, frames-small, frames-room}
-use Rattle.desk.specs.Desk.{lowered, words, bytes, sampleBytes, zeros, barred, unmarked, begun, resetNumber, resetImage, coldNumber, coldImage, decodeNumber, decodeImage, decodeSamples, samplesIn, standing, framesNumber, framesImage, framesSamples, framesNumbers, missedNumber, missedImage}
+use Rattle.desk_calls.specs.Images.{refusal-small, image-started, missed-same, missed-image}
+use Rattle.desk_calls.specs.FramesSame.{standing-long, frames-small, frames-room}
+use Rattle.desk_calls.specs.Desk.{lowered, words, bytes, sampleBytes, zeros, barred, unmarked, begun, resetNumber, resetImage, coldNumber, coldImage, decodeNumber, decodeImage, decodeSamples, samplesIn, standing, framesNumber, framesImage, framesSamples, framesNumbers, missedNumber, missedImage}
 
 -- ---- what a call on states answers is its refusal number
 pub number-is : (words : List ℤ) (bytes : List ℕ) (s : State) (payload : List ℕ) (room : ℕ) → Celp.decode words bytes s payload room .number ≡ Celp.refusal words bytes s payload room

@@ -6,8 +6,8 @@ use borrow.Author.Tests.{eq-eqb, ne-eqb}
 use lib.IntN.{ℤ}
 use lib.ListN.{length, take, drop}
 use Rattle.tables.specs.Tables.{check}
-use Rattle.celp.specs.declared.State.{State}
-use Rattle.celp.specs.State.{allZero}
+use Rattle.state.specs.declared.State.{State}
+use Rattle.state.specs.State.{allZero}
 use Rattle.image.specs.Image.{SIZE, image}
 use Rattle.slots.specs.declared.Slot.{Slot}
 use Rattle.shelf.specs.Shelf.{lent}
@@ -15,10 +15,10 @@ use Rattle.shelf.specs.Cases.{judged-not}
 use Rattle.desk_shelf.specs.Records.{RECORDS, records, no-records}
 use Rattle.seek.specs.declared.Sought.{Sought}
 use Rattle.seek.specs.Seek as Seek
-use Rattle.desk.specs.Desk.{TABLES, words, bytes}
-use Rattle.desk.specs.Images.{short-check}
+use Rattle.desk_calls.specs.Desk.{TABLES, words, bytes}
+use Rattle.desk_calls.specs.Images.{short-check}
 use Rattle.desk.proofs.Outcomes.{behind}
-use Rattle.desk.specs.Seeking.{sought, seekNumber, seekImage}
+use Rattle.desk_calls.specs.Seeking.{sought, seekNumber, seekImage}
 
 -- of a set that is refused with 1 nothing else matters
 one-set : (ws vs : List ℤ) (ys zs : List ℕ) (l : List Slot) (m recording : List ℕ) (k : ℕ) → check ws ys ≡ 1 → check vs zs ≡ 1 → Seek.seek ws ys l m recording k ≡ Seek.seek vs zs l m recording k

@@ -5,8 +5,8 @@ ghost use Rattle.shelf.specs.Shelf as Shelf;
 ghost use Rattle.desk_shelf.specs.Calls as Calls;
 ghost use Rattle.desk_fields.specs.Calls as Fields;
 ghost use Rattle.seek.specs.Seek as Seek;
-ghost use Rattle.desk.specs.Desk as Desk;
-ghost use Rattle.desk.specs.Seeking as Seeking;
+ghost use Rattle.desk_calls.specs.Desk as Desk;
+ghost use Rattle.desk_calls.specs.Seeking as Seeking;
 use seek::Sought;
 use slots::Slot;
 
@@ -51,7 +51,7 @@ pub extern "C" fn drolkhise_reset(tables: &[u8], image: &mut [u8]) -> u8
     }
     let mut words = [0i16; 5963];
     image::read_words(tables, 0, &mut words);
-    let r = celp::reset(&words, &tables[BYTES..]);
+    let r = state::reset(&words, &tables[BYTES..]);
     let state = r.state;
     image::write(state, image);
     r.number
@@ -72,7 +72,7 @@ pub extern "C" fn drolkhise_cold_start(tables: &[u8], image: &mut [u8]) -> u8
     }
     let mut words = [0i16; 5963];
     image::read_words(tables, 0, &mut words);
-    let r = celp::cold_start(&words, &tables[BYTES..]);
+    let r = state::cold_start(&words, &tables[BYTES..]);
     let state = r.state;
     image::write(state, image);
     r.number
@@ -201,7 +201,7 @@ pub extern "C" fn drolkhise_missed_frame(image: &mut [u8]) -> u8
         return NO_IMAGE;
     }
     let state = image::read(image);
-    let r = celp::missed_frame(state);
+    let r = state::missed_frame(state);
     image[MARK] = 0;
     image[SURE] = 0;
     r.number
@@ -284,7 +284,7 @@ pub extern "C" fn drolkhise_seek(
         return NO_IMAGE;
     }
     if records.len() != desk_shelf::RECORDS {
-        image::write(celp::all_zero(), image);
+        image::write(state::all_zero(), image);
         return 12;
     }
     let found = sought(

@@ -15,8 +15,8 @@ use Rattle.bits.specs.declared.HalfParams.{HalfParams}
 use Rattle.bits.specs.declared.FrameParams.{FrameParams}
 use Rattle.bits.specs.declared.Unpacked.{Unpacked}
 use Rattle.bits.specs.Bits as Bits
-use Rattle.celp.specs.State.{fault}
-use Rattle.celp.specs.Faults.{four-long}
+use Rattle.state.specs.State.{fault}
+use Rattle.state.specs.Faults.{four-long}
 use Rattle.hex.specs.File as File
 use Rattle.image.specs.Bytes.{bytesOf, numberAt}
 use Rattle.image.specs.Parts.{numbersAt}

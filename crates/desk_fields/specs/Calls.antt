@@ -6,7 +6,7 @@ use lib.Dec.{eqb}
 use lib.ListN.{length}
 use Rattle.bits.specs.Bits as Bits
 use Rattle.hex.specs.File as File
-use Rattle.celp.specs.State.{fault}
+use Rattle.state.specs.State.{fault}
 use Rattle.desk_fields.specs.Fields.{FIELDS, TOLD, bytesOfFields, fieldsOfBytes, bytesOfFault}
 
 -- how many bytes the tables are

@@ -5,7 +5,7 @@ use lib.ListN.{set, replicate}
 use Rattle.sequence.specs.First.{firstFrom}
 use Rattle.sequence.specs.Table.{table}
 use Rattle.bits.specs.Bits.{groups, places, widths, inverted, bitAt, readBit, gather, fieldsOf, refusal, fieldsOrZero, spread, byteOf, frameOf, widthNumber, pack, packed}
-use Rattle.celp.specs.State.{fault}
+use Rattle.state.specs.State.{fault}
 use Rattle.image.specs.Bytes.{bytesOf, numberAt}
 use Rattle.image.specs.Parts.{bytesOfAll, numbersAt}
 use Rattle.desk_fields.specs.Fields.{bytesOfFields, fieldsOfBytes, bytesOfFault}

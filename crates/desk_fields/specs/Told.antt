@@ -12,8 +12,8 @@ use lib.ListN.{length}
 use Rattle.tables.specs.declared.Fault.{Fault}
 use Rattle.tables.specs.Tables.{count, place, firstFault, check}
 use Rattle.tables.specs.Told.{told}
-use Rattle.celp.specs.State.{fault}
-use Rattle.celp.specs.Faults.{Tells, rule-of-six}
+use Rattle.state.specs.State.{fault}
+use Rattle.state.specs.Faults.{Tells, rule-of-six}
 use Rattle.hex.specs.File as File
 use Rattle.image.specs.Bytes.{bytesOf, numberAt, number-behind, number-back}
 use Rattle.desk_fields.specs.Fields.{TOLD, bytesOfFault, faultOfBytes}

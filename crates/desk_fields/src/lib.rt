@@ -7,7 +7,7 @@ ghost use Rattle.bits.specs.Bits as Bits;
 ghost use Rattle.image.specs.Bytes.{numberAt};
 ghost use Rattle.image.specs.Parts.{numbersAt};
 ghost use Rattle.hex.specs.File as File;
-ghost use Rattle.celp.specs.State as State;
+ghost use Rattle.state.specs.State as State;
 ghost use Rattle.desk_fields.specs.Fields as Fields;
 ghost use Rattle.desk_fields.specs.Calls as Calls;
 use bits::FrameParams;

@@ -33,17 +33,17 @@ use Rattle.synth.specs.Synth as Synth
 use Rattle.postfilter.specs.declared.OutputFilter.{OutputFilter}
 use Rattle.postfilter.specs.declared.Taps.{Taps}
 use Rattle.postfilter.specs.Postfilter as Postfilter
-use Rattle.core.specs.declared.Core.{Core}
-use Rattle.core.specs.Core as Spec
-use Rattle.core.specs.Figures.{pushed, left-gains}
-use Rattle.core.specs.Kept.{fixed-kept, lag-kept}
+use Rattle.half.specs.declared.Core.{Core}
+use Rattle.half.specs.Core as Spec
+use Rattle.half.specs.Figures.{pushed, left-gains}
+use Rattle.half.specs.Kept.{fixed-kept, lag-kept}
 use Rattle.full.specs.Room.{length-excited}
 use Rattle.frame.specs.Frame as Frame
 use Rattle.sure.specs.Sure.{after, left-le}
-use Rattle.celp.specs.declared.State.{State}
-use Rattle.celp.specs.State.{allZero, fallen, lspMean, initial}
-use Rattle.celp.specs.Celp.{refusal, raised, carried, decoded, next, accepted, answer, decode}
-use Rattle.celp.specs.Cases.{refused-state}
+use Rattle.state.specs.declared.State.{State}
+use Rattle.state.specs.State.{allZero, fallen, lspMean, initial}
+use Rattle.calls.specs.Celp.{refusal, raised, carried, decoded, next, accepted, answer, decode}
+use Rattle.calls.specs.Cases.{refused-state}
 use Rattle.image.specs.Image.{Whole, Single, Held}
 use Rattle.desk_laws.specs.Small.{Small, small-rewritten, small-drop, small-append, small-one, small-zeros, small-table, small-hi, small-trunc32, small-between, whole, whole-small, whole-zeros}
 

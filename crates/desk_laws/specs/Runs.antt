@@ -19,21 +19,21 @@ use Rattle.floats.specs.Within.{within-is-number}
 use Rattle.tables.specs.Places.{WORDS, BYTES}
 use Rattle.tables.specs.Tables.{broken, check}
 use Rattle.spectral.specs.Kept.{Words16}
-use Rattle.celp.specs.declared.State.{State}
-use Rattle.celp.specs.State.{fallen, obeys, startedBy, started, reset, coldStart, missedFrame}
-use Rattle.celp.specs.Celp as Celp
-use Rattle.celp.specs.Accepted.{accepted-means}
-use Rattle.celp.specs.StateRule.{floats-within}
-use Rattle.celp.specs.Run.{Event, heard, missed, step, run}
+use Rattle.state.specs.declared.State.{State}
+use Rattle.state.specs.State.{fallen, obeys, startedBy, started, reset, coldStart, missedFrame}
+use Rattle.calls.specs.Celp as Celp
+use Rattle.calls.specs.Accepted.{accepted-means}
+use Rattle.calls.specs.StateRule.{floats-within}
+use Rattle.calls.specs.Run.{Event, heard, missed, step, run}
 use Rattle.image.specs.Bytes.{Bytes, bytesOf, numberAt}
 use Rattle.image.specs.Parts.{Part, part, bytesOfAll, numbersAt, join, cut, length-numbers, numbers-at, numbers-below}
 use Rattle.image.specs.Image.{SIZE, layout, signed, numbers, ofNumbers, image, state, Held, NoNans}
 use Rattle.image.specs.Signs.{getD-mapped, whole-of}
 use Rattle.image.specs.RoundTrips.{length-image, image-bytes, state-back, state-held, image-back}
-use Rattle.desk.specs.Desk.{MARK, SURE, lowered, words, bytes, resetImage, coldImage, decodeNumber, decodeImage, missedNumber, missedImage}
+use Rattle.desk_calls.specs.Desk.{MARK, SURE, lowered, words, bytes, resetImage, coldImage, decodeNumber, decodeImage, missedNumber, missedImage}
 use Rattle.desk_laws.specs.Small.{whole-small}
 use Rattle.desk_laws.specs.Held.{decode-held, zero-held, initial-held}
-use Rattle.desk.specs.Images.{samplesOf, number-same, image-taken, image-refused, left-fallen, missed-same, missed-image, state-lowered, reset-same, cold-same}
+use Rattle.desk_calls.specs.Images.{samplesOf, number-same, image-taken, image-refused, left-fallen, missed-same, missed-image, state-lowered, reset-same, cold-same}
 
 -- ---- images that a program can lend, and those that are the image of their state: all but those with a NaN's pattern
 pub record Lent (b : List ℕ) : Type 0 where

@@ -7,17 +7,17 @@ use native.Mathlib.Omega.{arith}
 use lib.IntN.{ℤ}
 use lib.ListN.{length, take, drop, length-drop}
 use lib.Seq.{length-take-le}
-use Rattle.celp.specs.declared.State.{State}
-use Rattle.celp.specs.Celp as Celp
-use Rattle.celp.specs.Checks.{checked-passed}
-use Rattle.celp.specs.Frames as Frames
-use Rattle.celp.specs.Run.{Event, heard, run}
+use Rattle.state.specs.declared.State.{State}
+use Rattle.calls.specs.Celp as Celp
+use Rattle.calls.specs.Checks.{checked-passed}
+use Rattle.calls.specs.Frames as Frames
+use Rattle.calls.specs.Run.{Event, heard, run}
 use Rattle.image.specs.Bytes.{Bytes, bytesOf}
 use Rattle.image.specs.Parts.{bytesOfAll, all-append}
 use Rattle.image.specs.Image.{unsigned, image, state}
-use Rattle.desk.specs.Desk.{ROOM, words, bytes, sampleBytes, decodeNumber, decodeImage, decodeSamples, samplesIn, standing, framesNumber, framesImage, framesSamples, framesNumbers}
-use Rattle.desk.specs.Images.{samplesOf, number-same, samples-same}
-use Rattle.desk.specs.FramesSame.{standing-long, standing-back, frames-room, frames-number-same, frames-numbers-same, frames-samples-same, frames-taken}
+use Rattle.desk_calls.specs.Desk.{ROOM, words, bytes, sampleBytes, decodeNumber, decodeImage, decodeSamples, samplesIn, standing, framesNumber, framesImage, framesSamples, framesNumbers}
+use Rattle.desk_calls.specs.Images.{samplesOf, number-same, samples-same}
+use Rattle.desk_calls.specs.FramesSame.{standing-long, standing-back, frames-room, frames-number-same, frames-numbers-same, frames-samples-same, frames-taken}
 use Rattle.desk_laws.specs.Runs.{Lent, exact, obeys-no-nans, decode-leaves, runImages, onStates, run-leaves}
 
 -- ---- the single calls, each on the image that the one before left

@@ -10,7 +10,7 @@ use lib.IntN.{ℤ, pos}
 use lib.ListN.{length, getD}
 use Rattle.sequence.specs.Table.{table-of}
 use Rattle.tables.specs.Tables.{check}
-use Rattle.celp.specs.State.{startedBy, started, reset}
+use Rattle.state.specs.State.{startedBy, started, reset}
 use Rattle.hex.specs.File as File
 use Rattle.image.specs.Bytes.{numberAt}
 use Rattle.image.specs.Parts.{numbersAt, length-numbers, numbers-at}
@@ -19,8 +19,8 @@ use Rattle.image.specs.Signs.{getD-mapped}
 use Rattle.desk_fields.specs.Fields.{TOLD}
 use Rattle.desk_fields.specs.Calls.{checkNumber}
 use Rattle.desk_fields.specs.Told.{file-number}
-use Rattle.desk.specs.Desk.{TABLES, words, bytes, barred, resetNumber}
-use Rattle.desk.specs.Images.{words-long}
+use Rattle.desk_calls.specs.Desk.{TABLES, words, bytes, barred, resetNumber}
+use Rattle.desk_calls.specs.Images.{words-long}
 
 two-bytes : (b : List ℕ) (k : ℕ) → numberAt 2 b (0 + 2 * k) ≡ getD b (2 * k) 0 + 256 * getD b (2 * k + 1) 0
 unfolding numberAt

@@ -9,8 +9,8 @@ use borrow.Author.Tests.{eq-eqb, ne-eqb, ltb-true}
 use lib.Dec.{ltb}
 use lib.ListN.{length, getD, set, take, drop, drop-of-length-le}
 use lib.Seq.{sets, sets-eq, length-sets, length-take-le, take-suc, take-all, take-at, drop-at, drop-drop}
-use Rattle.celp.specs.declared.State.{State}
-use Rattle.celp.specs.State.{allZero, obeys}
+use Rattle.state.specs.declared.State.{State}
+use Rattle.state.specs.State.{allZero, obeys}
 use Rattle.image.specs.Image as Image
 use Rattle.image.specs.Image.{SIZE}
 use Rattle.slots.specs.declared.Slot.{Slot}

@@ -8,8 +8,8 @@ use borrow.Author.Tests.{eq-eqb, eqb-false, ltb-true, ltb-false}
 use lib.Dec.{eqb, ltb}
 use lib.ListN.{length, getD, set, length-set, List·getD-eq-default}
 use Rattle.sequence.specs.Table.{table, length-table, getD-table}
-use Rattle.celp.specs.declared.State.{State}
-use Rattle.celp.specs.State.{obeys}
+use Rattle.state.specs.declared.State.{State}
+use Rattle.state.specs.State.{obeys}
 use Rattle.image.specs.Bytes.{Bytes, number-below}
 use Rattle.image.specs.Image as Image
 use Rattle.image.specs.Image.{SIZE}

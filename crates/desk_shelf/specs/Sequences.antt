@@ -9,7 +9,7 @@ use borrow.Author.Tests.{eq-eqb}
 use lib.Dec.{eqb}
 use lib.ListN.{length, set, replicate}
 use Rattle.sequence.specs.Table.{table}
-use Rattle.celp.specs.State.{allZero}
+use Rattle.state.specs.State.{allZero}
 use Rattle.image.specs.Bytes.{Bytes, numberAt, bytes-append, bytes-of}
 use Rattle.image.specs.Image as Image
 use Rattle.image.specs.Image.{SIZE}

@@ -136,7 +136,7 @@ pub fn fetch(records: &[u8], images: &[u8], slot: u32, image: &mut [u8]) -> u8
         return NO_IMAGE;
     }
     if records.len() != RECORDS {
-        image::write(celp::all_zero(), image);
+        image::write(state::all_zero(), image);
         return NO_SHELF;
     }
     let fetched = shelf::fetch_by_value(read_records(records), images, slot);

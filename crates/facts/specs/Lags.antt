@@ -10,14 +10,14 @@ use Rattle.bits.specs.Bits.{fieldsOf}
 use Rattle.bits.specs.Widths.{within-names, fields-within}
 use Rattle.pitch.specs.Pitch.{InRange}
 use Rattle.pitch.specs.Lags.{sane-integer}
-use Rattle.core.specs.Kept.{lags-kept, lag-kept}
+use Rattle.half.specs.Kept.{lags-kept, lag-kept}
 use Rattle.frame.specs.declared.Subframe.{Subframe}
 use Rattle.frame.specs.Frame as Frame
-use Rattle.celp.specs.declared.State.{State}
-use Rattle.celp.specs.State.{initial, missedFrame}
-use Rattle.celp.specs.Celp.{refusal, silent, carried, decoded, next, accepted, answer, decode}
-use Rattle.celp.specs.Cases.{refused-state}
-use Rattle.celp.specs.Run.{Event, heard, missed, step, run}
+use Rattle.state.specs.declared.State.{State}
+use Rattle.state.specs.State.{initial, missedFrame}
+use Rattle.calls.specs.Celp.{refusal, silent, carried, decoded, next, accepted, answer, decode}
+use Rattle.calls.specs.Cases.{refused-state}
+use Rattle.calls.specs.Run.{Event, heard, missed, step, run}
 
 -- what holds of each of four holds at every place
 four : (P : Subframe → Type 0) (a b c d : Subframe) → P a → P b → P c → P d → (k : ℕ) → k < 4 → P (getD (a ∷ b ∷ c ∷ d ∷ []) k silent)

@@ -22,20 +22,20 @@ use Rattle.bits.specs.GainIndex.{gain-index-lt}
 use Rattle.gain.specs.Gain as Gain
 use Rattle.gain.specs.Ranges.{Bounded}
 use Rattle.gain.specs.Kept.{decode-bounded, amplitude-figure-finite, energy-number}
-use Rattle.core.specs.declared.Core.{Core}
-use Rattle.core.specs.declared.SubframeTrace.{SubframeTrace}
-use Rattle.core.specs.Core as HalfFrame
-use Rattle.core.specs.Figures.{histories, pushed}
-use Rattle.core.specs.Kept.{indexes-kept, gains-kept}
+use Rattle.half.specs.declared.Core.{Core}
+use Rattle.half.specs.declared.SubframeTrace.{SubframeTrace}
+use Rattle.half.specs.Core as HalfFrame
+use Rattle.half.specs.Figures.{histories, pushed}
+use Rattle.half.specs.Kept.{indexes-kept, gains-kept}
 use Rattle.frame.specs.declared.Subframe.{Subframe}
 use Rattle.frame.specs.Frame as Frame
 use Rattle.spectral.specs.Kept.{Words16}
-use Rattle.celp.specs.declared.State.{State}
-use Rattle.celp.specs.declared.Answer.{Answer}
-use Rattle.celp.specs.Celp.{refusal, silent, refused, carried, decoded, accepted, answer, decode}
-use Rattle.celp.specs.Run.{Event, run}
-use Rattle.celp.specs.Accepted.{accepted-means}
-use Rattle.celp.specs.StateRule.{Obeying, floats-within, kept, decode-obeying, run-obeying}
+use Rattle.state.specs.declared.State.{State}
+use Rattle.calls.specs.declared.Answer.{Answer}
+use Rattle.calls.specs.Celp.{refusal, silent, refused, carried, decoded, accepted, answer, decode}
+use Rattle.calls.specs.Run.{Event, run}
+use Rattle.calls.specs.Accepted.{accepted-means}
+use Rattle.calls.specs.StateRule.{Obeying, floats-within, kept, decode-obeying, run-obeying}
 
 -- a float that is no NaN
 abbrev pub number : Float → Bool

@@ -14,12 +14,12 @@ use Rattle.spectral.specs.Kept.{Words16, residual-kept, length-residual, push-k
 use Rattle.sequence.specs.Lists.{Same, Rising}
 use Rattle.spectral.specs.TotalCmp.{totalLe}
 use Rattle.spectral.specs.Predicted.{predict-any}
-use Rattle.core.specs.Figures.{left-lsp}
+use Rattle.half.specs.Figures.{left-lsp}
 use Rattle.frame.specs.Frame as Frame
-use Rattle.celp.specs.declared.State.{State}
-use Rattle.celp.specs.Celp.{refusal, carried}
-use Rattle.celp.specs.Accepted.{accepted-means}
-use Rattle.celp.specs.StateRule.{Obeying, kept}
+use Rattle.state.specs.declared.State.{State}
+use Rattle.calls.specs.Celp.{refusal, carried}
+use Rattle.calls.specs.Accepted.{accepted-means}
+use Rattle.calls.specs.StateRule.{Obeying, kept}
 
 module _ (words : List ℤ) (bytes : List ℕ) where
   -- the ten sums of a half, by the residuals before it

@@ -8,8 +8,8 @@ use lib.ListN.{take, drop, take-append-drop}
 use lib.Seq.{take-take}
 use Rattle.stream.specs.Lines.{lines}
 use Rattle.stream.specs.Told.{after}
-use Rattle.celp.specs.declared.State.{State}
-use Rattle.recording.specs.Recording.{isStart, Opening, opening, lineStep}
+use Rattle.state.specs.declared.State.{State}
+use Rattle.heard.specs.Recording.{isStart, Opening, opening, lineStep}
 
 -- a recording's lines, a first `+` not among them
 unfoldable pub framesOf : List (List ℕ) → List (List ℕ)

@@ -12,12 +12,12 @@ use lib.Seq.{take-nil, drop-nil, drop-drop, drop-cons, getD-take}
 use Rattle.stream.specs.Lines.{pieces, ofPieces, lines}
 use Rattle.stream.specs.Held.{zeros, push-text, push-count, shown-same}
 use Rattle.stream.specs.Told.{after}
-use Rattle.celp.specs.declared.State.{State}
-use Rattle.celp.specs.State.{reset, coldStart}
-use Rattle.celp.specs.Run.{step}
+use Rattle.state.specs.declared.State.{State}
+use Rattle.state.specs.State.{reset, coldStart}
+use Rattle.calls.specs.Run.{step}
 use Rattle.hex.specs.Text.{isFrame, isOnly}
 use Rattle.hex.specs.Held.{kept, push, heldLine}
-use Rattle.recording.specs.Recording.{event, isStart, Opening, opening, lineStep}
+use Rattle.heard.specs.Recording.{event, isStart, Opening, opening, lineStep}
 use Rattle.forward.specs.Forward.{framesOf, frames, forward}
 
 -- how long the first line of a text is

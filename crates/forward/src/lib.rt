@@ -4,13 +4,13 @@ ghost use Prim.Native.Nat.{_+_, _≤_, _<_, min};
 ghost use lib.Dec.{ltb};
 ghost use lib.ListN.{length, drop};
 ghost use Rattle.stream.specs.Lines.{lines};
-ghost use Rattle.celp.specs.Run.{heard, step};
+ghost use Rattle.calls.specs.Run.{heard, step};
 ghost use Rattle.hex.specs.Held as Held;
-ghost use Rattle.recording.specs.Recording as Recording;
+ghost use Rattle.heard.specs.Recording as Recording;
 ghost use Rattle.forward.specs.Forward as Forward;
 ghost use Rattle.forward.specs.Places as Places;
-use celp::State;
 use hex::Line;
+use state::State;
 
 // Where the line that begins at place a ends: at its newline, or at the end of the recording.
 pub fn line_end(recording: &[u8], a: usize) -> usize
@@ -103,7 +103,7 @@ fn line_step(words: &[i16], bytes: &[u8], state: State, line: Line) -> State
         let text = line.text;
         return hear(words, bytes, state, hex::payload(text));
     }
-    recording::missed(state)
+    heard::missed(state)
 }
 
 // The state that frames j up to k, k not among them, leave; where the recording ends before, those that there are.
@@ -130,10 +130,10 @@ fn opening(words: &[i16], bytes: &[u8], recording: &[u8]) -> State
     ensures { λ r. ⌜ r ≡ Recording.opening (now (words .entry)) (now (bytes .entry)) (lines (now (recording .entry))) .state ⌝ }
 {
     if start_of(recording) == 0 {
-        let cold = celp::cold_start(words, bytes);
+        let cold = state::cold_start(words, bytes);
         return cold.state;
     }
-    let reset = celp::reset(words, bytes);
+    let reset = state::reset(words, bytes);
     reset.state
 }
 

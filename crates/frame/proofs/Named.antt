@@ -4,8 +4,8 @@ use mathlib.Core.List.{List}
 use lib.IntN.{ℤ}
 use lib.Ieee.{Float}
 use Rattle.bits.specs.declared.HalfParams.{HalfParams}
-use Rattle.core.specs.declared.Core.{Core}
-use Rattle.core.specs.Kept.{indexes-kept, classes-kept}
+use Rattle.half.specs.declared.Core.{Core}
+use Rattle.half.specs.Kept.{indexes-kept, classes-kept}
 use Rattle.frame.specs.Frame.{lsp, half}
 use Rattle.frame.specs.Named.{Named}
 

@@ -9,12 +9,12 @@ use lib.ListN.{take}
 use Rattle.sequence.specs.Table.{table}
 use Rattle.bits.specs.declared.FrameParams.{FrameParams}
 use Rattle.spectral.specs.Spectral as Spectral
-use Rattle.core.specs.declared.Core.{Core}
-use Rattle.core.specs.declared.Half.{Half}
-use Rattle.core.specs.declared.SubframeTrace.{SubframeTrace}
-use Rattle.core.specs.Core as HalfFrame
-use Rattle.core.specs.Figures.{left-lsp, left-fixed, left-lag}
-use Rattle.core.specs.Depends as Core
+use Rattle.half.specs.declared.Core.{Core}
+use Rattle.half.specs.declared.Half.{Half}
+use Rattle.half.specs.declared.SubframeTrace.{SubframeTrace}
+use Rattle.half.specs.Core as HalfFrame
+use Rattle.half.specs.Figures.{left-lsp, left-fixed, left-lag}
+use Rattle.half.specs.Depends as Core
 use Rattle.frame.specs.declared.Decoded.{Decoded}
 use Rattle.frame.specs.Frame.{residual, lsp, half, figures, reported, subframes, halves, report, decode}
 

@@ -12,11 +12,11 @@ use Rattle.codebook.specs.Codebook as Codebook
 use Rattle.gain.specs.Gain as Gain
 use Rattle.lsp.specs.Lsp as Lsp
 use Rattle.spectral.specs.Spectral as Spectral
-use Rattle.core.specs.declared.Clipped.{Clipped}
-use Rattle.core.specs.declared.Core.{Core}
-use Rattle.core.specs.declared.Half.{Half}
-use Rattle.core.specs.declared.SubframeTrace.{SubframeTrace}
-use Rattle.core.specs.Core as HalfFrame
+use Rattle.half.specs.declared.Clipped.{Clipped}
+use Rattle.half.specs.declared.Core.{Core}
+use Rattle.half.specs.declared.Half.{Half}
+use Rattle.half.specs.declared.SubframeTrace.{SubframeTrace}
+use Rattle.half.specs.Core as HalfFrame
 use Rattle.frame.specs.declared.Subframe.{Subframe}
 use Rattle.frame.specs.declared.Step.{Step}
 use Rattle.frame.specs.declared.Both.{Both}

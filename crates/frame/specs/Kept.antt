@@ -15,8 +15,8 @@ use Rattle.gain.specs.Ranges as Gain
 use Rattle.spectral.specs.Spectral as Spectral
 use Rattle.floats.specs.Within.{Bounded}
 use Rattle.spectral.specs.Kept.{Words16, residual-kept, length-residual, push-kept}
-use Rattle.core.specs.declared.Core.{Core}
-use Rattle.core.specs.Kept.{gains-long, gains-kept}
+use Rattle.half.specs.declared.Core.{Core}
+use Rattle.half.specs.Kept.{gains-long, gains-kept}
 use Rattle.frame.specs.Frame.{residual, half, halves, report, decode}
 
 -- the residuals, and the gains, of a state that obeys the rule

@@ -12,10 +12,10 @@ ghost use Rattle.frame.specs.Frame as Frame;
 ghost use Rattle.frame.specs.Named.{Named};
 use bits::FrameParams;
 use bits::HalfParams;
-use core::Clipped;
-use core::Core;
-use core::Half;
-use core::SubframeTrace;
+use half::Clipped;
+use half::Core;
+use half::Half;
+use half::SubframeTrace;
 use slices::copy;
 
 // What is reported of a subframe.

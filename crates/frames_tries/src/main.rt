@@ -3,7 +3,7 @@
 // `P S N M`: one call from reset with mark M on the first P bytes, with rooms of S samples and N numbers; number, rule, place, mark and digests are said.
 // Rooms are filled before a call, so that what it leaves untouched is seen.
 ghost use Prim.Native.Nat.{_≤_, _<_};
-use celp::State;
+use state::State;
 
 const SAMPLES: usize = 20801;
 
@@ -205,7 +205,7 @@ fn asked(x: i64) -> usize
 }
 
 fn question(words: &[i16], bytes: &[u8], frames: &[u8], count: usize, n: [i64; 128]) {
-    let r = celp::reset(words, bytes);
+    let r = state::reset(words, bytes);
     let mut start = r.state;
     if count == 1 {
         let b = asked(n[0]);

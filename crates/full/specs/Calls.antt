@@ -15,11 +15,11 @@ use Rattle.full.specs.Half.{new, restricted, filled}
 use Rattle.full.specs.Frame.{Native}
 use Rattle.full.specs.Frame as Full
 use Rattle.full.specs.FrameSame.{kept, frame-same}
-use Rattle.celp.specs.declared.State.{State}
-use Rattle.celp.specs.State.{fallen, lspMean, initial, missedFrame}
-use Rattle.celp.specs.Celp.{refusal, carried, next, decoded, accepted, answer, decode, written, samples}
-use Rattle.celp.specs.Cases.{refused-state}
-use Rattle.celp.specs.Run.{Event, heard, missed, step, run}
+use Rattle.state.specs.declared.State.{State}
+use Rattle.state.specs.State.{fallen, lspMean, initial, missedFrame}
+use Rattle.calls.specs.Celp.{refusal, carried, next, decoded, accepted, answer, decode, written, samples}
+use Rattle.calls.specs.Cases.{refused-state}
+use Rattle.calls.specs.Run.{Event, heard, missed, step, run}
 
 -- a full decoder has the parts of our state
 pub record Carries (n : Native) (s : State) : Type 0 where

@@ -6,7 +6,7 @@ use lib.Ieee.{Float}
 use Rattle.bits.specs.declared.HalfParams.{HalfParams}
 use Rattle.bits.specs.declared.FrameParams.{FrameParams}
 use Rattle.spectral.specs.Spectral as Spectral
-use Rattle.core.specs.declared.SubframeTrace.{SubframeTrace}
+use Rattle.half.specs.declared.SubframeTrace.{SubframeTrace}
 use Rattle.full.specs.Half as Core
 use Rattle.frame.specs.declared.Subframe.{Subframe}
 use Rattle.frame.specs.Frame.{residual, lsp, reported}

@@ -7,8 +7,8 @@ use lib.ListN.{length}
 use Rattle.bits.specs.declared.FrameParams.{FrameParams}
 use Rattle.bits.specs.Widths.{InWidths}
 use Rattle.spectral.specs.Spectral as Spectral
-use Rattle.core.specs.declared.Core.{Core}
-use Rattle.core.specs.Core as HalfFrame
+use Rattle.half.specs.declared.Core.{Core}
+use Rattle.half.specs.Core as HalfFrame
 use Rattle.full.specs.Half.{Decoded160, restricted}
 use Rattle.full.specs.Half as Core
 use Rattle.full.specs.HalfSame.{Answers, full-same}

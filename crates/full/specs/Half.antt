@@ -14,6 +14,7 @@ use Rattle.bits.specs.declared.HalfParams.{HalfParams}
 use Rattle.bits.specs.Bits as Bits
 use Rattle.lsp.specs.declared.Pair.{Pair}
 use Rattle.lsp.specs.Lsp as Lsp
+use Rattle.reflection.specs.Reflection as Levinson
 use Rattle.pitch.specs.declared.Lag.{Lag}
 use Rattle.pitch.specs.Pitch as Pitch
 use Rattle.pitch.specs.Buffered.{sharpenBuffered}
@@ -26,9 +27,9 @@ use Rattle.gain.specs.Gain as Gain
 use Rattle.synth.specs.Synth as Synth
 use Rattle.postfilter.specs.declared.OutputFilter.{OutputFilter}
 use Rattle.postfilter.specs.Postfilter as Postfilter
-use Rattle.core.specs.declared.Core.{Core}
-use Rattle.core.specs.declared.SubframeTrace.{SubframeTrace}
-use Rattle.core.specs.Core as Spec
+use Rattle.half.specs.declared.Core.{Core}
+use Rattle.half.specs.declared.SubframeTrace.{SubframeTrace}
+use Rattle.half.specs.Core as Spec
 
 -- the struct `Core` of core.rs
 pub record Full : Type 0 where
@@ -77,7 +78,7 @@ finished bytes p sub core gains lpc lag start predicted voiced class code =
         lpc = lpc;
         innovation = code;
         «mixed_excitation» = here;
-        «zero_residuals» = Lsp.zeroResiduals lpc;
+        «zero_residuals» = Levinson.zeroResiduals lpc;
       };
     }
 
@@ -88,7 +89,7 @@ subframe words bytes p lpcs sub core gains =
     let lag : Lag = cond (eqb sub 0) (Pitch.decodeAbsolute (p .«absolute_pitch»)) (Pitch.decodeRelative (p .«relative_pitch») (core .«previous_lag»)) in
     let start : ℕ = 154 + 80 * sub in
     let predicted : List ℤ = Pitch.predict (Pitch.interp words) (core .excitation) start lag in
-    let reflection : List ℤ = Lsp.reflectionCoefficients lpc in
+    let reflection : List ℤ = Levinson.reflectionCoefficients lpc in
     let sharpen : InterpolationGains = Excitation.interpolationGains (getD reflection 0 (pos 0)) (core .«sharpen_fixed») (lag .integer) (core .«last_half_lag») in
     let innovation : Innovation = Codebook.decode words (cond (eqb sub 0) (p .code0) (p .code1)) in
     let class : ℕ = innovation .class in

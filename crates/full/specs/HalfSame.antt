@@ -26,10 +26,10 @@ use Rattle.codebook.specs.Codebook as Codebook
 use Rattle.codebook.specs.Ranges.{length-code}
 use Rattle.excitation.specs.declared.InterpolationGains.{InterpolationGains}
 use Rattle.synth.specs.Synth as Synth
-use Rattle.core.specs.declared.Core.{Core}
-use Rattle.core.specs.declared.SubframeParams.{SubframeParams}
-use Rattle.core.specs.declared.Subframe.{Subframe}
-use Rattle.core.specs.Core as Spec
+use Rattle.half.specs.declared.Core.{Core}
+use Rattle.half.specs.declared.SubframeParams.{SubframeParams}
+use Rattle.half.specs.declared.Subframe.{Subframe}
+use Rattle.half.specs.Core as Spec
 use Rattle.full.specs.Room as Room
 use Rattle.full.specs.Half.{Full, Stepped, Decoded160, finished, subframe, moved, replaced, ended, joined, decode, restricted, filled}
 

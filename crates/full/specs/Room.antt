@@ -16,9 +16,9 @@ use Rattle.pitch.specs.Pitch as Pitch
 use Rattle.pitch.specs.Lags.{sane-delay, absolute-sane, relative-sane}
 use Rattle.pitch.specs.Kept.{length-predict}
 use Rattle.pitch.specs.Reads.{Agree, agree-at, interpolated-same}
-use Rattle.core.specs.declared.Core.{Core}
-use Rattle.core.specs.declared.SubframeParams.{SubframeParams}
-use Rattle.core.specs.Core as Spec
+use Rattle.half.specs.declared.Core.{Core}
+use Rattle.half.specs.declared.SubframeParams.{SubframeParams}
+use Rattle.half.specs.Core as Spec
 
 agree-all : (n : ℕ) (x y : List ℤ) → length x ≡ n → length y ≡ n → Agree n x y → x ≡ y
 agree-all n x y a b e = sym (take-all n x (omega arith)) ∙ e ∙ take-all n y (omega arith)

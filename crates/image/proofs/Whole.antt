@@ -7,7 +7,7 @@ use lib.IntN.{ℤ, pos}
 use lib.Ieee.{Float, binary32, ofBits, toBits}
 use lib.ListN.{length, getD, set, length-map}
 use lib.Seq.{sets}
-use Rattle.celp.specs.declared.State.{State}
+use Rattle.state.specs.declared.State.{State}
 use Rattle.image.specs.Bytes.{bytesOf, numberAt}
 use Rattle.image.specs.Parts.{bytesOfAll, numbersAt, join, cut, length-all, length-numbers, numbers-at}
 use Rattle.image.specs.Image.{layout, unsigned, signed, numbers, ofNumbers, image, state}

@@ -5,8 +5,8 @@ use mathlib.Core.List.{List, [], _∷_, _++_}
 use lib.IntN.{ℤ, pos, negsuc}
 use lib.Ieee.{Float, binary32, ofBits, toBits}
 use lib.ListN.{replicate, take}
-use Rattle.celp.specs.declared.State.{State}
-use Rattle.celp.specs.State.{allZero}
+use Rattle.state.specs.declared.State.{State}
+use Rattle.state.specs.State.{allZero}
 use Rattle.image.specs.Bytes.{bytesOf}
 use Rattle.image.specs.Parts.{Part, bytesOfAll, join}
 use Rattle.image.specs.Image.{SIZE, layout, unsigned, numbers, image}

@@ -8,7 +8,7 @@ use lib.IntN.{ℤ, pos, negsuc}
 use lib.Signed.{mag}
 use lib.Ieee.{Float, nan, binary32, ofBits, toBits, nanBits, fits}
 use lib.ListN.{length, getD}
-use Rattle.celp.specs.declared.State.{State}
+use Rattle.state.specs.declared.State.{State}
 use Rattle.image.specs.Bytes.{numberAt}
 use Rattle.image.specs.Parts.{Part, part, size, join, cut}
 

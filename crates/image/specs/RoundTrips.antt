@@ -8,7 +8,7 @@ use lib.Ieee.{Float, binary32, toBits, ofBits}
 use lib.IntN.{ℤ}
 use lib.ListN.{length, getD, length-map}
 use Rattle.sequence.specs.Table.{table}
-use Rattle.celp.specs.declared.State.{State}
+use Rattle.state.specs.declared.State.{State}
 use Rattle.image.specs.Bytes.{Bytes}
 use Rattle.image.specs.Parts.{Part, part, Below, Fit, join, cut, size, numbersAt, none, more, length-join, join-bytes, cut-join, join-cut, length-numbers, numbers-at, numbers-below}
 use Rattle.image.specs.Image.{SIZE, Whole, Single, layout, unsigned, signed, numbers, ofNumbers, image, state, Held, NoNans}

@@ -8,7 +8,7 @@ ghost use lib.Ieee.{binary32, ofBits, toBits};
 ghost use Rattle.image.specs.Bytes as Bytes;
 ghost use Rattle.image.specs.Parts as Parts;
 ghost use Rattle.image.specs.Image as Image;
-use celp::State;
+use state::State;
 
 // The places of the parts, each behind the one before it.
 const LSP: usize = 0;

@@ -1,5 +1,3 @@
 -- The definitions that the contracts cite, their worked values, and the laws on them.
 pub mod Lsp
 pub mod Cases
-pub mod Exponent
-pub mod Zeros

@@ -25,7 +25,8 @@ use Rattle.plain.specs.Sums.{Short, AllShort, short-mul, shift-fits, shi
 use Rattle.fixed.specs.Sums.{fold-fits}
 use Rattle.fixed.specs.Shifts.{shift-up, shift-down, mag-acc}
 use Rattle.tables.specs.Places.{COS, COS-SLOPE}
-use Rattle.lsp.specs.Lsp.{at, position, entry, cosine, negated, product, linear, own, coefficient, nextPolynomial, firstPolynomial, lspPolynomial, plus, minus, halved, front, back, predictor, lspToLpc, residual, inverse, exponent, scale, difference, updated}
+use Rattle.lsp.specs.Lsp.{at, position, entry, cosine, negated, product, linear, own, coefficient, nextPolynomial, firstPolynomial, lspPolynomial, plus, minus, halved, front, back, predictor, lspToLpc}
+use Rattle.reflection.specs.Reflection.{residual, inverse, exponent, scale, difference, updated}
 
 -- of 32 bits, as far as a bound says it
 abbrev pub Held : ℤ → Type 0

@@ -7,7 +7,7 @@ use Rattle.fixed.specs.Fixed.{fold, sat, hi, mul, shift}
 use Rattle.fixed.specs.Abs.{abs-add, abs-mul-le}
 use Rattle.fixed.specs.Sums.{fold-fits}
 use Rattle.plain.specs.Sums.{Short, short-mul, shift-fits}
-use Rattle.core.specs.Core.{mixed}
+use Rattle.half.specs.Core.{mixed}
 
 pub mixed-plain : (pitchGain codeGain a c : ℤ) → Short pitchGain → Short codeGain → Short a → Short c → mixed pitchGain codeGain a c ≡ hi (sat ((mul a pitchGain +ℤ mul c codeGain *ℤ pos 2) *ℤ pos 2 +ℤ pos 32768))
 unfolding mixed

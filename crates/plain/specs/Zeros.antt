@@ -13,8 +13,8 @@ use Rattle.sequence.specs.Table.{table, getD-table, table-same}
 use Rattle.sequence.specs.Repeated.{repeated}
 use Rattle.sequence.specs.Lists.{tally}
 use Rattle.fixed.specs.Integers.{sub-above, sub-below}
-use Rattle.lsp.specs.Lsp.{at, updateAll, step, tail, reflectionCoefficients, zeroResidual, zeroResiduals}
-use Rattle.lsp.specs.Exponent.{residual-is}
+use Rattle.reflection.specs.Reflection.{at, updateAll, step, tail, reflectionCoefficients, zeroResidual, zeroResiduals}
+use Rattle.reflection.specs.Exponent.{residual-is}
 
 -- ---- a step keeps what stands at its place and behind it
 step-keeps : (top p : ℕ) (k : List ℤ) → top ≤ p → p < 10 → at (step top k) p ≡ at k p

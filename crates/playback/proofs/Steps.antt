@@ -14,12 +14,12 @@ use Rattle.stream.specs.Held.{shown-same}
 use Rattle.stream.specs.Machine.{fedAll}
 use Rattle.stream.specs.Room.{over, over-none, sets-append, sets-over}
 use Rattle.stream.specs.Decimal.{decimal, figure, decimal-long, figure-long}
-use Rattle.celp.specs.declared.State.{State}
+use Rattle.state.specs.declared.State.{State}
 use Rattle.hex.specs.declared.Line.{Line}
 use Rattle.hex.specs.Held.{kept, push, heldLine}
-use Rattle.recording.specs.declared.Said.{Said}
-use Rattle.recording.specs.Recording.{event, text, lineStep, lineText}
-use Rattle.recording.specs.Feed.{called}
+use Rattle.heard.specs.declared.Said.{Said}
+use Rattle.heard.specs.Recording.{event, text, lineStep, lineText}
+use Rattle.heard.specs.Start.{called}
 use Rattle.slots.specs.declared.Slot.{Slot}
 use Rattle.shelf.specs.declared.Saved.{Saved}
 use Rattle.shelf.specs.Shelf.{SLOTS, number, slotsAfter, SaveDone}

@@ -12,10 +12,10 @@ use borrow.Author.Tests.{ltb-true, ltb-false, ne-eqb}
 use Rattle.stream.specs.Lines.{lines}
 use Rattle.stream.specs.Told.{texts}
 use Rattle.stream.specs.Decimal.{decimal, figure}
-use Rattle.celp.specs.declared.State.{State}
-use Rattle.celp.specs.State.{fault}
+use Rattle.state.specs.declared.State.{State}
+use Rattle.state.specs.State.{fault}
 use Rattle.hex.specs.File as File
-use Rattle.recording.specs.Recording.{lineStep, lineText, tablesText}
+use Rattle.heard.specs.Recording.{lineStep, lineText, tablesText}
 use Rattle.shelf.specs.Shelf.{SLOTS, number, slotOf}
 use Rattle.shelf.specs.Run.{Shelf, zeros, after, save, hold, letGo, saving, holding, lettingGo}
 use Rattle.forward.specs.Forward.{frames, before}

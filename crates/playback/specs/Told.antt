@@ -19,9 +19,9 @@ use Rattle.stream.specs.Told.{texts}
 use Rattle.hex.specs.declared.Line.{Line}
 use Rattle.hex.specs.Held.{kept, push, heldLine}
 use Rattle.hex.specs.File as File
-use Rattle.celp.specs.declared.State.{State}
-use Rattle.recording.specs.Recording.{lineStep, lineText, tablesText}
-use Rattle.recording.specs.Feed as Feed
+use Rattle.state.specs.declared.State.{State}
+use Rattle.heard.specs.Recording.{lineStep, lineText, tablesText}
+use Rattle.heard.specs.Start as Start
 use Rattle.shelf.specs.Run.{Shelf}
 use Rattle.shelf.specs.Run as Run
 use Rattle.forward.specs.Forward.{frames}
@@ -60,8 +60,8 @@ spoken words tables recording (suc n) s u =
 -- THE PROGRAM, as its calls promise it: the start's text and, where that is no refusal, those of the turns
 unfoldable pub talked : List ℕ → List ℕ → ℕ → List Read → List ℕ
 talked file recording n reads =
-    Feed.startText file
-    ++ cond (eqb (Feed.started file .number) 0) (spoken (File.words file) (File.bytes file) recording n (seen recording start (Run.zeros .images)) (record { chunk = []; reads = reads })) []
+    Start.startText file
+    ++ cond (eqb (Start.started file .number) 0) (spoken (File.words file) (File.bytes file) recording n (seen recording start (Run.zeros .images)) (record { chunk = []; reads = reads })) []
 
 -- ---- a chunk up to its first newline
 pub record Cut (chunk : List ℕ) : Type 0 where
@@ -313,11 +313,11 @@ module _ (file recording : List ℕ) (n : ℕ) (reads : List Read) (enough : (le
   unfolding transcript rest cost pending texts ahead Run.zeros
   spoken-whole words tables = any-turns words tables recording n (seen recording start (Run.zeros .images)) (record { chunk = []; reads = reads }) [] (record { held = refl; plain-line = refl; untold = refl }) (omega arith)
 
-  by-number : (k : ℕ) → Feed.startTextBy k file ++ cond (eqb (Feed.startedBy k file .number) 0) (spoken (File.words file) (File.bytes file) recording n (seen recording start (Run.zeros .images)) (record { chunk = []; reads = reads })) [] ≡ output k file recording (inputOf reads)
-  unfolding Feed.startTextBy Feed.startedBy output
+  by-number : (k : ℕ) → Start.startTextBy k file ++ cond (eqb (Start.startedBy k file .number) 0) (spoken (File.words file) (File.bytes file) recording n (seen recording start (Run.zeros .images)) (record { chunk = []; reads = reads })) [] ≡ output k file recording (inputOf reads)
+  unfolding Start.startTextBy Start.startedBy output
   by-number zero = spoken-whole (File.words file) (File.bytes file)
   by-number (suc k) = rw (ne-eqb (suc k) 0 (λ e. omega arith)) (append-nil (tablesText (suc k) file))
 
   pub program-told : talked file recording n reads ≡ program file recording (inputOf reads)
-  unfolding talked program Feed.startText Feed.started
+  unfolding talked program Start.startText Start.started
   program-told = by-number (File.checkFile file)

@@ -10,12 +10,12 @@ use lib.ListN.{length, take, drop, replicate}
 use Rattle.stream.specs.Lines.{lines}
 use Rattle.stream.specs.Machine.{fedAll}
 use Rattle.stream.specs.Room.{over}
-use Rattle.celp.specs.declared.State.{State}
-use Rattle.celp.specs.State.{allZero}
+use Rattle.state.specs.declared.State.{State}
+use Rattle.state.specs.State.{allZero}
 use Rattle.hex.specs.declared.Line.{Line}
 use Rattle.hex.specs.Held.{kept, push, heldLine}
 use Rattle.hex.specs.File as File
-use Rattle.recording.specs.Recording.{lineStep, lineText}
+use Rattle.heard.specs.Recording.{lineStep, lineText}
 use Rattle.slots.specs.declared.Slot.{Slot}
 use Rattle.slots.specs.Slots.{noSlot}
 use Rattle.shelf.specs.Shelf.{SLOTS}

@@ -8,8 +8,8 @@ use Rattle.stream.specs.Told.{texts}
 use Rattle.stream.specs.Decimal.{decimalIn, decimal, figure}
 use Rattle.hex.specs.File as File
 use Rattle.hex.specs.Text.{digit, tablesRefusedText}
-use Rattle.celp.specs.State.{fault}
-use Rattle.recording.specs.Recording.{tablesText}
+use Rattle.state.specs.State.{fault}
+use Rattle.heard.specs.Recording.{tablesText}
 use Rattle.shelf.specs.Shelf as Shelf
 use Rattle.shelf.specs.Run as Run
 use Rattle.seek.specs.Best.{fits, better, bestOf, best}

@@ -9,18 +9,18 @@ ghost use Rattle.stream.specs.Decimal.{figure};
 ghost use Rattle.stream.specs.Machine.{fedAll};
 ghost use Rattle.hex.specs.File as File;
 ghost use Rattle.hex.specs.Held as Held;
-ghost use Rattle.recording.specs.Feed as Feed;
+ghost use Rattle.heard.specs.Start as Start;
 ghost use Rattle.shelf.specs.Shelf as Shelf;
 ghost use Rattle.shelf.specs.Shelf.{number, slotsAfter};
 ghost use Rattle.playback.specs.Playback as Playback;
 ghost use Rattle.playback.specs.Turns as Turns;
-use celp::State;
 use commands::Command;
 use hex::Line;
 use seek::Sought;
 use shelf::SLOTS;
 use slots::Records;
 use slots::Slot;
+use state::State;
 
 // What is left to play: the state before the next frame, the place of its line in the recording, and how many frames are asked for.
 pub struct Cue {
@@ -62,7 +62,7 @@ fn silence() -> Cue
     ensures { λ r. ⌜ r ≡ Turns.silence ⌝ }
 {
     Cue {
-        state: celp::all_zero(),
+        state: state::all_zero(),
         place: 0,
         left: 0,
     }
@@ -99,7 +99,7 @@ fn frame(words: &[i16], bytes: &[u8], cue: Cue, recording: &[u8], room: &mut [u8
     let state = cue.state;
     let a = cue.place;
     let e = forward::line_end(recording, a);
-    let said = recording::call(words, bytes, state, forward::held(&recording[a..e]), room);
+    let said = heard::call(words, bytes, state, forward::held(&recording[a..e]), room);
     let next = said.state;
     Played {
         cue: Cue {
@@ -158,7 +158,7 @@ fn found(
     }
     Sought {
         number: 15,
-        state: celp::all_zero(),
+        state: state::all_zero(),
     }
 }
 
@@ -443,7 +443,7 @@ pub fn turn(
     chunk: &[u8],
     room: &mut [u8],
 ) -> Turned
-    requires { ⌜ Feed.Tables (now words) (now file) ⌝ ∗ ⌜ 1283 ≤ length (now room) ⌝ }
+    requires { ⌜ Start.Tables (now words) (now file) ⌝ ∗ ⌜ 1283 ≤ length (now room) ⌝ }
     ensures took { λ r. ⌜ Turns.Took (now (recording .entry)) (Turns.turn (File.words (now (file .entry))) (File.bytes (now (file .entry))) (now (recording .entry)) (Turns.seen (now (recording .entry)) p (now (images .entry))) (now (chunk .entry))) (now (room .entry)) r (now (images .exit)) (now (room .exit)) ⌝ }
     ensures fits { λ r. ⌜ Counts (r .n) (now (room .exit)) ⌝ }
     ensures used { λ r. ⌜ r .used ≤ length (now (chunk .entry)) ⌝ }

@@ -3,7 +3,7 @@ ghost use mathlib.Core.Path.{_≡_};
 ghost use Prim.Native.Nat.{_≤_};
 ghost use lib.ListN.{length};
 ghost use Rattle.io.specs.Counts.{Counts};
-ghost use Rattle.recording.specs.Feed as Feed;
+ghost use Rattle.heard.specs.Start as Start;
 ghost use Rattle.playback.specs.Turns as Turns;
 use libc::STDERR_FILENO;
 use pipe::Moved;
@@ -59,7 +59,7 @@ fn take_turn(
     recording: &[u8],
     chunk: &[u8],
 ) -> Stand
-    requires { ⌜ Feed.Tables (now words) (now file) ⌝ ∗ ⌜ length (now chunk) ≡ 4096 ⌝ ∗ ⌜ (stand .at ≤ stand .to) × (stand .to ≤ 4096) ⌝ }
+    requires { ⌜ Start.Tables (now words) (now file) ⌝ ∗ ⌜ length (now chunk) ≡ 4096 ⌝ ∗ ⌜ (stand .at ≤ stand .to) × (stand .to ≤ 4096) ⌝ }
     ensures sent { λ r. ⌜ Turns.Sent (now (recording .entry)) (Turns.turnOf (now (file .entry)) (now (recording .entry)) (now (chunk .entry)) (stand .player) (now (images .entry)) (stand .at) (stand .to)) (stand .at) (r .player) (now (images .exit)) (r .at) (r .sent) (r .failed) ⌝ }
     ensures unread { λ r. ⌜ (r .at ≤ r .to) × (r .to ≤ 4096) ⌝ }
 {
@@ -102,7 +102,7 @@ fn stopped() {
 // Each turn plays a frame, uses a byte or more, or is at the end. A proved loop has to end and nothing says that an input does, so the turns are
 // counted, as in console.
 fn play(words: &[i16], file: &[u8], recording: &[u8])
-    requires { ⌜ Feed.Tables (now words) (now file) ⌝ }
+    requires { ⌜ Start.Tables (now words) (now file) ⌝ }
 {
     let mut images = [0u8; 8416];
     let mut chunk = io::buffer();
@@ -143,7 +143,7 @@ fn open(recording: &[u8]) {
         return;
     }
     let n = got.n;
-    let start = recording::begin(&file[..n], &mut words, &mut room);
+    let start = heard::begin(&file[..n], &mut words, &mut room);
     let k = start.n;
     let put = pipe::write(&room[..k]);
     if put.failed {

@@ -1,13 +1,12 @@
 -- The recorder takes its input a byte at a time and writes a text at each line's end. What its calls promise, joined, is the program's text.
-use Prim.Native.Nat.{ℕ, zero, suc, _+_, _-_, _*_, _<_, _≤_, min}
+use Prim.Native.Nat.{ℕ, zero, suc, _+_, _*_, _<_, _≤_, min}
 use mathlib.Core.Path.{_≡_, refl, ap, _∙_}
 use mathlib.Core.List.{List, [], _∷_, _++_, append-nil}
 use mathlib.Core.Bool.{Bool, true, false, _&&_, cond}
 use native.Mathlib.Omega.{arith}
 use lib.Dec.{eqb}
 use lib.IntN.{ℤ}
-use lib.ListN.{length, take, drop, length-drop}
-use lib.Seq.{take-all}
+use lib.ListN.{length}
 use borrow.Author.Tests.{eq-eqb, ne-eqb}
 use Rattle.stream.specs.Lines.{lines}
 use Rattle.stream.specs.Held.{zeros, push-text, push-count, push-one, shown-same}
@@ -15,18 +14,17 @@ use Rattle.stream.specs.Machine.{fedAll, writtenAll, Streamed, streamed-most}
 use Rattle.stream.specs.Reads.{Read, inputOf, answers, Took}
 use Rattle.stream.specs.Reads as Reads
 use Rattle.stream.specs.Told.{texts, told, last, Machine, reads-told}
-use Rattle.celp.specs.declared.State.{State}
-use Rattle.celp.specs.State.{allZero, reset, coldStart}
-use Rattle.celp.specs.Run.{Event, step}
+use Rattle.state.specs.declared.State.{State}
+use Rattle.state.specs.State.{reset, coldStart}
 use Rattle.hex.specs.declared.Line.{Line}
 use Rattle.hex.specs.Held.{kept, push, heldLine}
-use Rattle.recording.specs.declared.Recorder.{Recorder}
-use Rattle.recording.specs.declared.Said.{Said}
+use Rattle.heard.specs.declared.Recorder.{Recorder}
+use Rattle.heard.specs.declared.Said.{Said}
 use Rattle.recording.specs.declared.Fed.{Fed}
-use Rattle.recording.specs.declared.Started.{Started}
 use Rattle.hex.specs.Text.{isFrame, isOnly}
 use Rattle.hex.specs.File as File
-use Rattle.recording.specs.Recording.{event, text, lineStep, lineText, isStart, opening, transcriptOf, transcript, tablesText, output, program}
+use Rattle.heard.specs.Recording.{event, lineStep, lineText, isStart, opening, transcriptOf, transcript, tablesText, output, program}
+use Rattle.heard.specs.Start.{begin, startTextBy, startText, startedBy, started}
 
 -- ---- where a recording stands
 -- between two lines: whether its first is still to come, and the state
@@ -37,10 +35,6 @@ pub record Place : Type 0 where
 abbrev pub standing : Bool → State → Line → Recorder
 standing first state line = record { first = first; state = state; line = line }
 
--- after a start that is refused
-unfoldable pub idle : Recorder
-idle = record { first = true; state = allZero; line = kept [] }
-
 -- the room that a chunk of n bytes asks: 32 for each of its own and of those that are held, and one text more. A frame's text, 1,283 bytes, is paid for by
 -- the 41 of its line, and a refusal's 10 by one
 abbrev pub roomFor : ℕ → ℕ
@@ -50,14 +44,6 @@ abbrev pub credit : Recorder → ℕ
 credit r = 32 * min (r .line .n) 41
 
 module _ (words : List ℤ) (bytes : List ℕ) where
-  -- at the start: cold, and no line is open
-  unfoldable pub begin : Recorder
-  begin = record { first = true; state = coldStart words bytes .state; line = kept [] }
-
-  -- a call: how long its text is, and the state that it returns
-  unfoldable pub called : State → Event → Said
-  called s e = record { n = length (text words bytes s e); state = step words bytes s e }
-
   -- the end of a line: a first `+` gives reset and no text, any other line is a call
   unfoldable pub endStep : Bool → State → List ℕ → State
   endStep first s line = cond (first && isStart line) (reset words bytes .state) (lineStep words bytes s line)
@@ -148,7 +134,7 @@ module _ (words : List ℤ) (bytes : List ℕ) where
       by false e = rw e (ap (λ (t : List ℕ). lineText words bytes (coldStart words bytes .state) l ++ t) (going (lineStep words bytes (coldStart words bytes .state) l) ls))
 
   -- however its input is cut into reads, their texts, joined, are the transcript of all that was read
-  pub transcript-told : (reads : List Read) → answers fed written ending begin reads ≡ transcript words bytes (inputOf reads)
+  pub transcript-told : (reads : List Read) → answers fed written ending (begin words bytes) reads ≡ transcript words bytes (inputOf reads)
   unfolding begin at transcript told nothing
   transcript-told reads =
       reads-told placeStep placeText nothing fed written ending at machine (record { first = true; state = coldStart words bytes .state }) reads
@@ -181,40 +167,6 @@ unfolding push
 other-paid l b = let p = push-one 40 (l .n) in omega arith
 
 -- ---- the calls of the program, over the table file's bytes
--- the words are those of a file of the right length
-pub record Tables (words : List ℤ) (file : List ℕ) : Type 0 where
-  pub long : length file ≡ 15834
-  pub are : words ≡ File.words file
-
--- its bytes, as they are lent
-pub part-bytes : (file : List ℕ) → length file ≡ 15834 → take (length file - 11926) (drop 11926 file) ≡ File.bytes file
-part-bytes file e = take-all (length file - 11926) (drop 11926 file) (omega (arith, length-drop 11926 file))
-
--- the start: nothing is written, or the file's refusal; and where the recording then stands
-unfoldable pub startTextBy : ℕ → List ℕ → List ℕ
-startTextBy zero file = []
-startTextBy (suc n) file = tablesText (suc n) file
-
-unfoldable pub startText : List ℕ → List ℕ
-startText file = startTextBy (File.checkFile file) file
-
-unfoldable pub startedBy : ℕ → List ℕ → Started
-startedBy zero file = record { recorder = begin (File.words file) (File.bytes file); number = 0; n = 0 }
-startedBy (suc n) file = record { recorder = idle; number = suc n; n = length (tablesText (suc n) file) }
-
-unfoldable pub started : List ℕ → Started
-started file = startedBy (File.checkFile file) file
-
--- which of the two it is, by the number
-pub started-refused : (file : List ℕ) (k : ℕ) → k ≡ File.checkFile file → (k ≡ 0 → ⊥) → (started file ≡ record { recorder = idle; number = k; n = length (tablesText k file) }) × (startText file ≡ tablesText k file)
-unfolding started startText startedBy startTextBy
-started-refused file zero e h = absurd (h refl)
-started-refused file (suc k) e h = rw (← e) (refl, refl)
-
-pub started-ready : (file : List ℕ) → File.checkFile file ≡ 0 → (started file ≡ record { recorder = begin (File.words file) (File.bytes file); number = 0; n = 0 }) × (startText file ≡ [])
-unfolding started startText startedBy startTextBy
-started-ready file e = rw e (refl, refl)
-
 module _ (file : List ℕ) where
   abbrev pub fedBy : Recorder → ℕ → Recorder
   fedBy = fed (File.words file) (File.bytes file)

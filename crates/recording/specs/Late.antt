@@ -10,15 +10,15 @@ use lib.IntN.{ℤ}
 use lib.ListN.{getD}
 use borrow.Author.Tests.{ne-eqb}
 use Rattle.stream.specs.Told as Told
-use Rattle.celp.specs.declared.State.{State}
-use Rattle.celp.specs.Celp.{refusal, decode, answer, accepted, refused, samples}
-use Rattle.celp.specs.Mark.{mark-missed, mark-refused}
-use Rattle.celp.specs.Receiver.{afterAll, Call, START, Joins, at-first, Follows, begun, between, without}
-use Rattle.celp.specs.Receiver as Receiver
-use Rattle.celp.specs.Relied.{receiver-may-rely, cold-joins}
-use Rattle.celp.specs.Run.{Event, heard, missed, step, run}
+use Rattle.state.specs.declared.State.{State}
+use Rattle.calls.specs.Celp.{refusal, decode, answer, accepted, refused, samples}
+use Rattle.calls.specs.Mark.{mark-missed, mark-refused}
+use Rattle.calls.specs.Receiver.{afterAll, Call, START, Joins, at-first, Follows, begun, between, without}
+use Rattle.calls.specs.Receiver as Receiver
+use Rattle.calls.specs.Relied.{receiver-may-rely, cold-joins}
+use Rattle.calls.specs.Run.{Event, heard, missed, step, run}
 use Rattle.hex.specs.Text.{digit, isFrame, payload, frameText, refusedText}
-use Rattle.recording.specs.Recording.{event, answerText, text, lineStep, lineText, isStart, opening}
+use Rattle.heard.specs.Recording.{event, answerText, text, lineStep, lineText, isStart, opening}
 
 -- the recording has no first `+`
 abbrev pub NoStart : List (List ℕ) → Type 0

@@ -1,3 +1,2 @@
-pub mod Recording
 pub mod Feed
 pub mod Late

@@ -1,175 +1,22 @@
 // A recording as text: frames come in as lines of hexadecimal, samples go out as lines of hexadecimal.
 ghost use mathlib.Core.Path.{_≡_};
-ghost use mathlib.Core.Bool.{_&&_};
 ghost use Prim.Native.Nat.{_+_, _*_, _≤_, min};
 ghost use lib.ListN.{length};
 ghost use Rattle.io.specs.Counts.{Counts};
-ghost use Rattle.tables.specs.Places.{WORDS};
 ghost use Rattle.stream.specs.Room.{over};
 ghost use Rattle.stream.specs.Machine.{writtenAll};
-ghost use Rattle.hex.specs.File as File;
 ghost use Rattle.hex.specs.Held as Held;
-ghost use Rattle.recording.specs.Recording as Recording;
+ghost use Rattle.heard.specs.Start as Start;
 ghost use Rattle.recording.specs.Feed as Feed;
-ghost use Rattle.celp.specs.Run.{heard};
-ghost use Rattle.celp.specs.State as Start;
-use celp::State;
+use heard::Recorder;
+use heard::Said;
 use hex::Line;
-use tables::Fault;
-
-// Where a recording stands: whether its first line is still to come, the decoder's state, and the line that is coming in.
-pub struct Recorder {
-    pub first: bool,
-    pub state: State,
-    pub line: Line,
-}
-
-// The end of a line: how long its text is, and the state that its call returned.
-pub struct Said {
-    pub n: usize,
-    pub state: State,
-}
+use state::State;
 
 // What a chunk of the input leaves, and how long its text is.
 pub struct Fed {
     pub recorder: Recorder,
     pub n: usize,
-}
-
-// The start: the table file's refusal number, how long its text is, and where the recording stands.
-pub struct Started {
-    pub recorder: Recorder,
-    pub number: u8,
-    pub n: usize,
-}
-
-// Cold until a first line says otherwise, with no line open.
-fn from_cold(words: &[i16], bytes: &[u8]) -> Recorder
-    ensures { λ r. ⌜ r ≡ Feed.begin (now (words .entry)) (now (bytes .entry)) ⌝ }
-{
-    let r = celp::cold_start(words, bytes);
-    let state = r.state;
-    let line = hex::empty();
-    Recorder {
-        first: true,
-        state,
-        line,
-    }
-}
-
-// Of tables that are refused: a cold start that is given none.
-fn idle() -> Recorder
-    ensures { λ r. ⌜ r ≡ Feed.idle ⌝ }
-{
-    let words = [0i16; 1];
-    let bytes = [0u8; 1];
-    from_cold(&words, &bytes)
-}
-
-// A table file that is refused: its line goes over the beginning of room. The answer is its length.
-fn refuse(number: u8, words: &[i16], file: &[u8], room: &mut [u8]) -> usize
-    requires { ⌜ number ≡ File.checkFile (now file) ⌝ ∗ ⌜ (number ≡ 4 → Feed.Tables (now words) (now file)) ⌝ ∗ ⌜ 40 ≤ length (now room) ⌝ }
-    ensures length { λ r. ⌜ r ≡ length (Recording.tablesText number (now (file .entry))) ⌝ }
-    ensures text { λ _. ⌜ now (room .exit) ≡ over (Recording.tablesText number (now (file .entry))) (now (room .entry)) ⌝ }
-{
-    if number == 4 {
-        let told = tables::first_fault(words, &file[11926..]);
-        return hex::put_tables_refused(number, told, room);
-    }
-    hex::put_tables_refused(number, Fault { rule: 0, place: 0 }, room)
-}
-
-// The start from the table file's bytes, of which the first 15,835 are enough: its words are put, and its refusal goes over the beginning of room.
-pub fn begin(file: &[u8], words: &mut [i16], room: &mut [u8]) -> Started
-    requires { ⌜ length (now words) ≡ WORDS ⌝ ∗ ⌜ 40 ≤ length (now room) ⌝ }
-    ensures started { λ r. ⌜ r ≡ Feed.started (now (file .entry)) ⌝ }
-    ensures words { λ _. ⌜ now (words .exit) ≡ File.wordsOr (now (file .entry)) (now (words .entry)) ⌝ }
-    ensures text { λ _. ⌜ now (room .exit) ≡ over (Feed.startText (now (file .entry))) (now (room .entry)) ⌝ }
-    ensures ready { λ r. ⌜ (r .number ≡ 0 → Feed.Tables (now (words .exit)) (now (file .entry))) ⌝ }
-    ensures fits { λ r. ⌜ Counts (r .n) (now (room .exit)) ⌝ }
-{
-    let number = hex::check_file(file, words);
-    if number != 0 {
-        let n = refuse(number, words, file, room);
-        return Started {
-            recorder: idle(),
-            number,
-            n,
-        };
-    }
-    Started {
-        recorder: from_cold(words, &file[11926..]),
-        number: 0,
-        n: 0,
-    }
-}
-
-// A frame's call: its text goes over the beginning of out.
-fn hear(words: &[i16], bytes: &[u8], state: State, payload: [u8; 20], out: &mut [u8]) -> Said
-    requires { ⌜ 1283 ≤ length (now out) ⌝ }
-    ensures said { λ r. ⌜ r ≡ Feed.called (now (words .entry)) (now (bytes .entry)) state (heard payload 320) ⌝ }
-    ensures text { λ _. ⌜ now (out .exit) ≡ over (Recording.text (now (words .entry)) (now (bytes .entry)) state (heard payload 320)) (now (out .entry)) ⌝ }
-    ensures fits { λ r. ⌜ r .n ≤ 1283 ⌝ }
-{
-    let mut samples = [0i16; 320];
-    let a = celp::decode(words, bytes, state, &payload, &mut samples);
-    let next = a.state;
-    let number = a.number;
-    if number != 0 {
-        return Said {
-            n: hex::put_refused(number, out),
-            state: next,
-        };
-    }
-    Said {
-        n: hex::put_frame(a.mark, &samples, out),
-        state: next,
-    }
-}
-
-// The state that a missed frame leaves.
-pub fn missed(state: State) -> State
-    ensures { λ r. ⌜ r ≡ Start.missedFrame state .state ⌝ }
-{
-    let r = celp::missed_frame(state);
-    r.state
-}
-
-// A line's call: its text goes over the beginning of out.
-pub fn call(words: &[i16], bytes: &[u8], state: State, line: Line, out: &mut [u8]) -> Said
-    requires { ⌜ 1283 ≤ length (now out) ⌝ }
-    ensures said { λ r. ⌜ r ≡ Feed.called (now (words .entry)) (now (bytes .entry)) state (Recording.event (Held.heldLine line)) ⌝ }
-    ensures text { λ _. ⌜ now (out .exit) ≡ over (Recording.lineText (now (words .entry)) (now (bytes .entry)) state (Held.heldLine line)) (now (out .entry)) ⌝ }
-    ensures fits { λ r. ⌜ r .n ≤ 1283 ⌝ }
-    ensures paid { λ r. ⌜ r .n ≤ 32 * min (line .n) 41 + 32 ⌝ }
-{
-    if hex::held_frame(line) {
-        let text = line.text;
-        return hear(words, bytes, state, hex::payload(text), out);
-    }
-    let next = missed(state);
-    Said {
-        n: hex::put_refused(9, out),
-        state: next,
-    }
-}
-
-// The state that a recording begins in whose call was heard from its start.
-fn reset(words: &[i16], bytes: &[u8]) -> State
-    ensures { λ r. ⌜ r ≡ Start.reset (now (words .entry)) (now (bytes .entry)) .state ⌝ }
-{
-    let start = celp::reset(words, bytes);
-    start.state
-}
-
-// Whether the line is a first `+`.
-pub fn is_opening(first: bool, line: Line) -> bool
-    ensures { λ r. ⌜ r ≡ first && Recording.isStart (Held.heldLine line) ⌝ }
-{
-    if first {
-        return hex::is_only(line, b'+');
-    }
-    false
 }
 
 // The end of a line: its text goes over the beginning of out. A first `+` has none.
@@ -187,13 +34,13 @@ fn end_line(
     ensures fits { λ r. ⌜ r .n ≤ 1283 ⌝ }
     ensures paid { λ r. ⌜ r .n ≤ 32 * min (line .n) 41 + 32 ⌝ }
 {
-    if is_opening(first, line) {
+    if heard::is_opening(first, line) {
         return Said {
             n: 0,
-            state: reset(words, bytes),
+            state: heard::reset(words, bytes),
         };
     }
-    call(words, bytes, state, line, out)
+    heard::call(words, bytes, state, line, out)
 }
 
 // A chunk of the input: all its text goes over the beginning of room.
@@ -245,7 +92,7 @@ fn end(words: &[i16], bytes: &[u8], recorder: Recorder, room: &mut [u8]) -> usiz
 
 // What one read gave, nothing being the end of the input: all the text that it gives goes over the beginning of room.
 pub fn answer(words: &[i16], file: &[u8], recorder: Recorder, chunk: &[u8], room: &mut [u8]) -> Fed
-    requires { ⌜ Feed.Tables (now words) (now file) ⌝ ∗ ⌜ Feed.roomFor (length (now chunk)) ≤ length (now room) ⌝ }
+    requires { ⌜ Start.Tables (now words) (now file) ⌝ ∗ ⌜ Feed.roomFor (length (now chunk)) ≤ length (now room) ⌝ }
     ensures fed { λ r. ⌜ r ≡ Feed.answered (now (file .entry)) recorder (now (chunk .entry)) ⌝ }
     ensures text { λ _. ⌜ now (room .exit) ≡ over (Feed.answeredText (now (file .entry)) recorder (now (chunk .entry))) (now (room .entry)) ⌝ }
     ensures fits { λ r. ⌜ Counts (r .n) (now (room .exit)) ⌝ }

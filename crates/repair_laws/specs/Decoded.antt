@@ -18,12 +18,12 @@ use Rattle.tables.specs.Tables.{broken, check}
 use Rattle.tables.specs.Rules.{tests}
 use Rattle.bits.specs.Bits.{fieldsOf}
 use Rattle.frame.specs.Frame as Frame
-use Rattle.celp.specs.declared.State.{State}
-use Rattle.celp.specs.State.{obeys}
-use Rattle.celp.specs.Celp.{refusal, refused, accepted, answer, decode, samples}
-use Rattle.celp.specs.Run.{heard}
+use Rattle.state.specs.declared.State.{State}
+use Rattle.state.specs.State.{obeys}
+use Rattle.calls.specs.Celp.{refusal, refused, accepted, answer, decode, samples}
+use Rattle.calls.specs.Run.{heard}
 use Rattle.hex.specs.Text.{digit, isDigit, isFrame, isOnly, byteAt, payload, frameText, refusedText}
-use Rattle.recording.specs.Recording.{event, blank, answerText, text, lineText, isStart, opening}
+use Rattle.heard.specs.Recording.{event, blank, answerText, text, lineText, isStart, opening}
 use Rattle.repair.specs.Repair.{repaired}
 use Rattle.repair.specs.Bytes.{isLower, lower-digits}
 use Rattle.repair.specs.Laws.{only-is, isSound, isLowerFrame, Kind, equals, start, frame, dash, kind}

@@ -1,10 +1,10 @@
 // The answers of lsp: 0 lsf_to_lsp of ten, 1 lsp_to_lpc of ten, 2 midpoint of ten and ten, 3 reflection_coefficients of eleven,
 // and how many of its residuals are 0.
 use libc::STDOUT_FILENO;
-use lsp::Reflection;
 use questions::end_line;
 use questions::say_line;
 use questions::say_words;
+use reflection::Reflection;
 ghost use mathlib.Core.Path.{_≡_};
 ghost use Prim.Native.Nat.{ℕ, _+_, _<_, _≤_};
 ghost use lib.ListN.{length, getD};
@@ -60,6 +60,6 @@ pub fn answer(words: &[i16], n: [i64; 128])
         0 => say_line(&lsp::lsf_to_lsp(words, frequencies(n))),
         1 => say_line(&lsp::lsp_to_lpc(ten(n, 2))),
         2 => say_line(&lsp::midpoint(ten(n, 2), ten(n, 12))),
-        _ => say_reflection(lsp::reflection_coefficients(eleven(n))),
+        _ => say_reflection(reflection::reflection_coefficients(eleven(n))),
     }
 }

@@ -2,7 +2,7 @@
 ghost use mathlib.Core.Path.{_≡_};
 ghost use mathlib.Core.Bool.{not, _&&_};
 ghost use lib.Dec.{ltb};
-ghost use Rattle.recording.specs.Feed as Recording;
+ghost use Rattle.heard.specs.Start as Start;
 ghost use Rattle.term.specs.Feed as Feed;
 use libc::STDERR_FILENO;
 use term::Recorder;
@@ -26,7 +26,7 @@ fn goes_on(n: usize, full: bool) -> bool
 
 // One read.
 fn take_in(words: &[i16], file: &[u8], recorder: Recorder) -> Turn
-    requires { ⌜ Recording.Tables (now words) (now file) ⌝ }
+    requires { ⌜ Start.Tables (now words) (now file) ⌝ }
     ensures { λ r. ⌜ Feed.TookIn (now (file .entry)) recorder (r .recorder) (r .more) (r .failed) ⌝ }
 {
     let mut chunk = io::buffer();
@@ -50,7 +50,7 @@ fn take_in(words: &[i16], file: &[u8], recorder: Recorder) -> Turn
 }
 
 fn tell(words: &[i16], file: &[u8], recorder: Recorder)
-    requires { ⌜ Recording.Tables (now words) (now file) ⌝ }
+    requires { ⌜ Start.Tables (now words) (now file) ⌝ }
 {
     let mut room = [0u8; 16384];
     let n = term::report(words, file, recorder, &mut room);
@@ -69,7 +69,7 @@ fn stopped() {
 
 // Each turn reads a byte or more, or is the last; they are counted as in decode.
 fn count(words: &[i16], file: &[u8], start: Recorder)
-    requires { ⌜ Recording.Tables (now words) (now file) ⌝ }
+    requires { ⌜ Start.Tables (now words) (now file) ⌝ }
 {
     let mut recorder = start;
     let mut turns = u64::MAX;

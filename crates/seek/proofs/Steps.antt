@@ -9,8 +9,8 @@ use borrow.Author.Tests.{eq-eqb, ne-eqb, lt-ltb, le-ltb}
 use lib.IntN.{ℤ}
 use lib.ListN.{length, replicate}
 use Rattle.tables.specs.Tables.{check}
-use Rattle.celp.specs.declared.State.{State}
-use Rattle.celp.specs.State.{obeys}
+use Rattle.state.specs.declared.State.{State}
+use Rattle.state.specs.State.{obeys}
 use Rattle.slots.specs.declared.Slot.{Slot}
 use Rattle.slots.specs.declared.Records.{Records}
 use Rattle.slots.specs.Slots.{noSlot, shown}

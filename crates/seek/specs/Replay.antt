@@ -12,11 +12,11 @@ use Rattle.tables.specs.Tables.{check}
 use Rattle.spectral.specs.Kept.{Words16}
 use Rattle.stream.specs.Lines.{lines}
 use Rattle.stream.specs.Told.{after}
-use Rattle.celp.specs.declared.State.{State}
-use Rattle.celp.specs.State.{allZero, obeys, started, startedBy, reset, coldStart}
-use Rattle.celp.specs.Run.{run}
-use Rattle.celp.specs.StateRule.{Obeying, initial-obeying, run-obeying}
-use Rattle.recording.specs.Recording.{event, isStart, Opening, opening, lineStep}
+use Rattle.state.specs.declared.State.{State}
+use Rattle.state.specs.State.{allZero, obeys, started, startedBy, reset, coldStart}
+use Rattle.calls.specs.Run.{run}
+use Rattle.calls.specs.StateRule.{Obeying, initial-obeying, run-obeying}
+use Rattle.heard.specs.Recording.{event, isStart, Opening, opening, lineStep}
 use Rattle.slots.specs.declared.Slot.{Slot}
 use Rattle.shelf.specs.Shelf.{SLOTS, ROOM, slotAt, stateAt, lent, judged}
 use Rattle.shelf.specs.Cases.{is-lent}

@@ -6,8 +6,8 @@ use lib.Dec.{ltb}
 use lib.IntN.{ℤ}
 use lib.ListN.{length}
 use Rattle.tables.specs.Tables.{check}
-use Rattle.celp.specs.declared.State.{State}
-use Rattle.celp.specs.State.{allZero, obeys}
+use Rattle.state.specs.declared.State.{State}
+use Rattle.state.specs.State.{allZero, obeys}
 use Rattle.slots.specs.declared.Slot.{Slot}
 use Rattle.shelf.specs.Shelf.{SLOTS, slotAt, stateAt, judged}
 use Rattle.forward.specs.Forward.{frames, forward}

@@ -6,11 +6,11 @@ ghost use lib.ListN.{length};
 ghost use Rattle.shelf.specs.Shelf as Shelf;
 ghost use Rattle.seek.specs.Best as Best;
 ghost use Rattle.seek.specs.Seek as Seek;
-use celp::State;
 use shelf::ROOM;
 use shelf::SLOTS;
 use slots::Records;
 use slots::Slot;
+use state::State;
 
 // The best so far: its slot, 16 for none, and its frame number.
 struct Save {
@@ -68,7 +68,7 @@ fn not_sought(number: u8) -> Sought
 {
     Sought {
         number,
-        state: celp::all_zero(),
+        state: state::all_zero(),
     }
 }
 

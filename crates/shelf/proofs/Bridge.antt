@@ -16,7 +16,7 @@ use Rattle.shelf.specs.declared.Change.{Change}
 use Rattle.shelf.specs.declared.AfterChange.{AfterChange}
 use Rattle.shelf.specs.declared.Taking.{Taking}
 use Rattle.shelf.specs.declared.Fetched.{Fetched}
-use Rattle.celp.specs.declared.State.{State}
+use Rattle.state.specs.declared.State.{State}
 use Rattle.image.specs.Image as Image
 
 -- where there are not sixteen, nothing is asked of the records

@@ -19,8 +19,8 @@ use borrow.Author.Tests.{eqb-true, eqb-false, ltb-true, ltb-false}
 use lib.ListN.{length, set, length-set, length-replicate, replicate, getD-replicate, List·getD-eq-default}
 use lib.Seq.{getD-set-same, getD-set-other}
 use Rattle.sequence.specs.First.{first-at, first-before}
-use Rattle.celp.specs.declared.State.{State}
-use Rattle.celp.specs.State.{allZero, obeys}
+use Rattle.state.specs.declared.State.{State}
+use Rattle.state.specs.State.{allZero, obeys}
 use Rattle.image.specs.Image as Image
 use Rattle.image.specs.Image.{Held}
 use Rattle.image.specs.RoundTrips.{length-image}

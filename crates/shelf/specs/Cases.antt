@@ -7,8 +7,8 @@ use native.Mathlib.Omega.{arith}
 use borrow.Author.Tests.{lt-ltb, le-ltb, eq-eqb, ne-eqb, eqb-true}
 use lib.Dec.{eqb, ltb}
 use lib.ListN.{length}
-use Rattle.celp.specs.declared.State.{State}
-use Rattle.celp.specs.State.{obeys, allZero}
+use Rattle.state.specs.declared.State.{State}
+use Rattle.state.specs.State.{obeys, allZero}
 use Rattle.slots.specs.declared.Slot.{Slot}
 use Rattle.shelf.specs.Shelf.{SLOTS, ROOM, users, free, lent, judged, ofHeld, stateAt, saveLent, fetchLent, fetch, Decision, refuse, change, number, slotOf, slotsAfter, imagesAfter}
 

@@ -4,7 +4,7 @@ use mathlib.Core.List.{List, [], _∷_}
 use mathlib.Core.Bool.{cond}
 use lib.Dec.{eqb}
 use lib.ListN.{length, replicate}
-use Rattle.celp.specs.declared.State.{State}
+use Rattle.state.specs.declared.State.{State}
 use Rattle.image.specs.Image as Image
 use Rattle.image.specs.Image.{Held}
 use Rattle.slots.specs.declared.Slot.{Slot}

@@ -6,8 +6,8 @@ use mathlib.Core.Bool.{Bool, cond, _&&_}
 use lib.Dec.{eqb, ltb}
 use lib.ListN.{length, getD, set, take, drop}
 use Rattle.sequence.specs.First.{first}
-use Rattle.celp.specs.declared.State.{State}
-use Rattle.celp.specs.State.{allZero, obeys}
+use Rattle.state.specs.declared.State.{State}
+use Rattle.state.specs.State.{allZero, obeys}
 use Rattle.image.specs.Image as Image
 use Rattle.image.specs.Image.{SIZE}
 use Rattle.slots.specs.declared.Slot.{Slot}

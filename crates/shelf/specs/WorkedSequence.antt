@@ -12,8 +12,8 @@ use lib.ListN.{replicate, length-replicate, getD-replicate}
 use Rattle.sequence.specs.First.{firstFrom}
 use Rattle.sequence.specs.Table.{table}
 use Rattle.floats.specs.Floats.{within}
-use Rattle.celp.specs.declared.State.{State}
-use Rattle.celp.specs.State.{blank, marked, obeys}
+use Rattle.state.specs.declared.State.{State}
+use Rattle.state.specs.State.{blank, marked, obeys}
 use Rattle.image.specs.Bytes.{bytesOf, numberAt}
 use Rattle.image.specs.Parts.{bytesOfAll, numbersAt, join, cut}
 use Rattle.image.specs.Image as Image

@@ -7,10 +7,10 @@ ghost use Rattle.image.specs.Image as Image;
 ghost use Rattle.slots.specs.Slots.{shown};
 ghost use Rattle.shelf.specs.Shelf as Shelf;
 ghost use Rattle.shelf.specs.ByValue as ByValue;
-use celp::State;
 use image::SIZE;
 use slots::Records;
 use slots::Slot;
+use state::State;
 
 // How many records there are, and how many bytes their images take.
 pub const SLOTS: usize = 16;
@@ -168,7 +168,7 @@ fn saving(r: Records, images: &mut [u8], state: State, frame: u32) -> Taking
     if SLOTS <= k {
         return not_taken(14, r.count);
     }
-    if !celp::obeys(state) {
+    if !state::obeys(state) {
         return not_taken(5, r.count);
     }
     store(images, k, state);
@@ -187,7 +187,7 @@ fn not_fetched(number: u8) -> Fetched
 {
     Fetched {
         number,
-        state: celp::all_zero(),
+        state: state::all_zero(),
     }
 }
 
@@ -206,7 +206,7 @@ fn fetching(r: Records, images: &[u8], slot: u32) -> Fetched
         return not_fetched(13);
     }
     let state = load(images, k);
-    if !celp::obeys(state) {
+    if !state::obeys(state) {
         return not_fetched(5);
     }
     Fetched { number: 0, state }

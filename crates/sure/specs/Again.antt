@@ -17,7 +17,7 @@ use Rattle.pitch.specs.declared.Lag.{Lag}
 use Rattle.pitch.specs.Pitch as Pitch
 use Rattle.pitch.specs.Lags.{sane-delay}
 use Rattle.pitch.specs.Kept.{length-predict}
-use Rattle.core.specs.Core as Spec
+use Rattle.half.specs.Core as Spec
 use Rattle.sure.specs.Sure.{surer}
 
 -- x and y have the same samples from place lo on, up to hi

@@ -13,10 +13,10 @@ use lib.Seq.{take-at, drop-at, drop-drop, take-all}
 use Rattle.bits.specs.declared.FrameParams.{FrameParams}
 use Rattle.bits.specs.Widths.{InWidths}
 use Rattle.spectral.specs.Spectral as Spectral
-use Rattle.core.specs.declared.Core.{Core}
-use Rattle.core.specs.declared.Half.{Half}
-use Rattle.core.specs.Core as Spec
-use Rattle.core.specs.Depends as Depends
+use Rattle.half.specs.declared.Core.{Core}
+use Rattle.half.specs.declared.Half.{Half}
+use Rattle.half.specs.Core as Spec
+use Rattle.half.specs.Depends as Depends
 use Rattle.frame.specs.declared.Decoded.{Decoded}
 use Rattle.frame.specs.Frame as Frame
 use Rattle.frame.specs.Depends.{AfterTwo}

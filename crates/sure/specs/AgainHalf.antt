@@ -8,12 +8,12 @@ use lib.ListN.{length, getD, replicate, length-append, length-drop, length-repli
 use lib.Seq.{getD-drop}
 use Rattle.bits.specs.declared.HalfParams.{HalfParams}
 use Rattle.bits.specs.Widths.{InWidths}
-use Rattle.core.specs.declared.Core.{Core}
-use Rattle.core.specs.declared.Half.{Half}
-use Rattle.core.specs.declared.SubframeTrace.{SubframeTrace}
-use Rattle.core.specs.Core as Spec
-use Rattle.core.specs.Depends as Depends
-use Rattle.core.specs.Kept.{lags-kept}
+use Rattle.half.specs.declared.Core.{Core}
+use Rattle.half.specs.declared.Half.{Half}
+use Rattle.half.specs.declared.SubframeTrace.{SubframeTrace}
+use Rattle.half.specs.Core as Spec
+use Rattle.half.specs.Depends as Depends
+use Rattle.half.specs.Kept.{lags-kept}
 use Rattle.sure.specs.Sure.{surer}
 use Rattle.sure.specs.Again.{Agreed, length-excited, subframe-again, part-long, part-same}
 

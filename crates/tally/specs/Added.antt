@@ -10,7 +10,7 @@ use lib.ListN.{length, getD, set, length-append, length-set, length-map}
 use lib.Seq.{getD-set-same, getD-set-other}
 use Rattle.sequence.specs.Lists as Lists
 use Rattle.sequence.specs.Table.{table, length-table, getD-table, table-of}
-use Rattle.core.specs.declared.Clipped.{Clipped}
+use Rattle.half.specs.declared.Clipped.{Clipped}
 use Rattle.frame.specs.declared.Subframe.{Subframe}
 use Rattle.tally.specs.declared.Clippings.{Clippings}
 use Rattle.tally.specs.declared.Subframes.{Subframes}

@@ -5,7 +5,7 @@ use mathlib.Core.Bool.{Bool, cond}
 use lib.Dec.{ltb, eqb}
 use lib.IntN.{ℤ}
 use lib.ListN.{getD, set}
-use Rattle.core.specs.declared.Clipped.{Clipped}
+use Rattle.half.specs.declared.Clipped.{Clipped}
 use Rattle.frame.specs.declared.Subframe.{Subframe}
 use Rattle.tally.specs.declared.Clippings.{Clippings}
 use Rattle.tally.specs.declared.Subframes.{Subframes}

@@ -5,11 +5,11 @@ use mathlib.Core.List.{List}
 use mathlib.Core.Bool.{false}
 use lib.IntN.{ℤ}
 use borrow.Author.Tests.{eq-eqb, ne-eqb}
-use Rattle.celp.specs.declared.State.{State}
-use Rattle.celp.specs.declared.Answer.{Answer}
-use Rattle.celp.specs.State.{missedFrame}
-use Rattle.celp.specs.Celp.{decode}
-use Rattle.celp.specs.Run.{heard, missed, step}
+use Rattle.state.specs.declared.State.{State}
+use Rattle.calls.specs.declared.Answer.{Answer}
+use Rattle.state.specs.State.{missedFrame}
+use Rattle.calls.specs.Celp.{decode}
+use Rattle.calls.specs.Run.{heard, missed, step}
 use Rattle.tally.specs.declared.Tally.{Tally}
 use Rattle.tally.specs.Carried.{countedAll, addedAll, numbered, withFrame, withOutcome}
 use Rattle.term.specs.Term.{answered, outcome}

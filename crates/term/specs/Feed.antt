@@ -14,12 +14,12 @@ use Rattle.stream.specs.Machine.{fedAll, fed-append, writtenAll}
 use Rattle.stream.specs.Reads as Reads
 use Rattle.stream.specs.Reads.{Read, inputOf, answers-joined}
 use Rattle.stream.specs.Told.{after, texts, told, last, Machine, reads-told}
-use Rattle.celp.specs.State.{coldStart}
+use Rattle.state.specs.State.{coldStart}
 use Rattle.hex.specs.declared.Line.{Line}
 use Rattle.hex.specs.Text.{isFrame, isOnly}
 use Rattle.hex.specs.File as File
-use Rattle.recording.specs.Recording.{event, isStart, tablesText}
-use Rattle.recording.specs.Feed as Recording
+use Rattle.heard.specs.Recording.{event, isStart, tablesText}
+use Rattle.heard.specs.Start as Start
 use Rattle.hex.specs.Held.{kept, push, heldLine}
 use Rattle.tally.specs.declared.Tally.{Tally}
 use Rattle.tally.specs.Figures.{tally, full}
@@ -33,13 +33,13 @@ use Rattle.term.specs.Steps.{place, lineCalled, lineEnded, placed, full-
 abbrev pub standing : Place → Line → Recorder
 standing p l = record { first = p .first; state = p .state; line = l; tally = p .tally }
 
--- the start from the table file's bytes: recording's, with an empty tally
+-- the start from the table file's bytes: heard's, with an empty tally
 unfoldable pub started : List ℕ → Started
 started file =
     record {
-      recorder = record { first = Recording.started file .recorder .first; state = Recording.started file .recorder .state; line = Recording.started file .recorder .line; tally = tally 0 [] };
-      number = Recording.started file .number;
-      n = Recording.started file .n;
+      recorder = record { first = Start.started file .recorder .first; state = Start.started file .recorder .state; line = Start.started file .recorder .line; tally = tally 0 [] };
+      number = Start.started file .number;
+      n = Start.started file .n;
     }
 
 module _ (words : List ℤ) (bytes : List ℕ) where
@@ -176,10 +176,10 @@ module _ (file : List ℕ) where
 
   -- THE PROGRAM, as its calls promise it: the start's text and, where that is no refusal, the report after any reads, the last of which it may have stopped at
   unfoldable pub told-by : List Read → List ℕ
-  told-by reads = Recording.startText file ++ cond (eqb (started file .number) 0) (endingBy (fedReads (File.words file) (File.bytes file) (started file .recorder) reads)) []
+  told-by reads = Start.startText file ++ cond (eqb (started file .number) 0) (endingBy (fedReads (File.words file) (File.bytes file) (started file .recorder) reads)) []
 
-  by-number : (n : ℕ) (reads : List Read) → Recording.startTextBy n file ++ cond (eqb (Recording.startedBy n file .number) 0) (endingBy (fedReads (File.words file) (File.bytes file) (record { first = Recording.startedBy n file .recorder .first; state = Recording.startedBy n file .recorder .state; line = Recording.startedBy n file .recorder .line; tally = tally 0 [] }) reads)) [] ≡ output n file (inputOf reads)
-  unfolding Recording.startTextBy Recording.startedBy Recording.begin output
+  by-number : (n : ℕ) (reads : List Read) → Start.startTextBy n file ++ cond (eqb (Start.startedBy n file .number) 0) (endingBy (fedReads (File.words file) (File.bytes file) (record { first = Start.startedBy n file .recorder .first; state = Start.startedBy n file .recorder .state; line = Start.startedBy n file .recorder .line; tally = tally 0 [] }) reads)) [] ≡ output n file (inputOf reads)
+  unfolding Start.startTextBy Start.startedBy Start.begin output
   by-number zero reads =
       reads-fed (File.words file) (File.bytes file) (at (File.words file) (File.bytes file) (place true (coldStart (File.words file) (File.bytes file) .state) (tally 0 [])) []) reads
       ∙ report-told (File.words file) (File.bytes file) (place true (coldStart (File.words file) (File.bytes file) .state) (tally 0 [])) reads
@@ -187,5 +187,5 @@ module _ (file : List ℕ) where
   by-number (suc n) reads = rw (ne-eqb (suc n) 0 (λ e. omega arith)) (append-nil (tablesText (suc n) file))
 
   pub program-told : (reads : List Read) → told-by reads ≡ program file (inputOf reads)
-  unfolding told-by started Recording.startText Recording.started program
+  unfolding told-by started Start.startText Start.started program
   program-told reads = by-number (File.checkFile file) reads

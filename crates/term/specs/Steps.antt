@@ -11,15 +11,15 @@ use lib.Seq.{take-nil}
 use native.Mathlib.Nat.{add-zero, zero-add}
 use borrow.Author.Tests.{leb-true, leb-false}
 use Rattle.sequence.specs.Lists as Lists
-use Rattle.core.specs.declared.Clipped.{Clipped}
-use Rattle.core.specs.Clipped.{Within, first-within, second-within}
+use Rattle.half.specs.declared.Clipped.{Clipped}
+use Rattle.half.specs.Clipped.{Within, first-within, second-within}
 use Rattle.frame.specs.Frame as Frame
-use Rattle.celp.specs.declared.State.{State}
-use Rattle.celp.specs.State.{reset, coldStart}
-use Rattle.celp.specs.Celp as Celp
-use Rattle.celp.specs.Run.{Event, heard, missed, step}
+use Rattle.state.specs.declared.State.{State}
+use Rattle.state.specs.State.{reset, coldStart}
+use Rattle.calls.specs.Celp as Celp
+use Rattle.calls.specs.Run.{Event, heard, missed, step}
 use Rattle.stream.specs.Told.{after}
-use Rattle.recording.specs.Recording.{event, lineStep, isStart, opening}
+use Rattle.heard.specs.Recording.{event, lineStep, isStart, opening}
 use Rattle.tally.specs.declared.Clippings.{Clippings}
 use Rattle.tally.specs.declared.Tally.{Tally}
 use Rattle.tally.specs.Figures.{Outcome, clippings, subframesOf, clippedOf, tally, LIMIT, full}

@@ -7,13 +7,13 @@ use lib.Dec.{eqb}
 use lib.IntN.{ℤ}
 use lib.ListN.{length, take}
 use Rattle.stream.specs.Lines.{lines}
-use Rattle.celp.specs.declared.State.{State}
-use Rattle.celp.specs.declared.Answer.{Answer}
-use Rattle.celp.specs.Celp as Celp
-use Rattle.celp.specs.Run.{Event, heard, missed}
+use Rattle.state.specs.declared.State.{State}
+use Rattle.calls.specs.declared.Answer.{Answer}
+use Rattle.calls.specs.Celp as Celp
+use Rattle.calls.specs.Run.{Event, heard, missed}
 use Rattle.hex.specs.Text.{isOnly}
 use Rattle.hex.specs.File as File
-use Rattle.recording.specs.Recording.{event, lineStep, opening, tablesText}
+use Rattle.heard.specs.Recording.{event, lineStep, opening, tablesText}
 use Rattle.tally.specs.declared.Tally.{Tally}
 use Rattle.tally.specs.Figures.{Outcome, tally, LIMIT}
 use Rattle.term_text.specs.Report.{report}

@@ -5,15 +5,15 @@ ghost use lib.ListN.{length};
 ghost use Rattle.io.specs.Counts.{Counts};
 ghost use Rattle.stream.specs.Room.{over};
 ghost use Rattle.stream.specs.Machine.{fedAll};
-ghost use Rattle.celp.specs.Run.{heard};
+ghost use Rattle.calls.specs.Run.{heard};
 ghost use Rattle.hex.specs.Held as Held;
-ghost use Rattle.recording.specs.Feed as Recording;
+ghost use Rattle.heard.specs.Start as Start;
 ghost use Rattle.hex.specs.File as File;
 ghost use Rattle.tally.specs.Figures as Figures;
 ghost use Rattle.term.specs.Steps as Steps;
 ghost use Rattle.term.specs.Feed as Feed;
-use celp::State;
 use hex::Line;
+use state::State;
 use tally::Tally;
 
 // Where the input stands between two lines: whether a recording's first line is to come, the decoder's state, and the tally.
@@ -71,7 +71,7 @@ fn call(words: &[i16], bytes: &[u8], state: State, line: Line, tally: Tally) -> 
         let text = line.text;
         return hear(words, bytes, state, hex::payload(text), tally);
     }
-    let missed = celp::missed_frame(state);
+    let missed = state::missed_frame(state);
     let next = missed.state;
     Place {
         first: false,
@@ -99,7 +99,7 @@ fn end_line(
         };
     }
     if hex::is_only(line, b'=') {
-        let start = celp::cold_start(words, bytes);
+        let start = state::cold_start(words, bytes);
         let next = start.state;
         return Place {
             first: true,
@@ -107,8 +107,8 @@ fn end_line(
             tally: tally::uncounted(tally),
         };
     }
-    if recording::is_opening(first, line) {
-        let whole = celp::reset(words, bytes);
+    if heard::is_opening(first, line) {
+        let whole = state::reset(words, bytes);
         let next = whole.state;
         return Place {
             first: false,
@@ -124,11 +124,11 @@ pub fn begin(file: &[u8], words: &mut [i16], room: &mut [u8]) -> Started
     requires { ⌜ length (now words) ≡ 5963 ⌝ ∗ ⌜ 40 ≤ length (now room) ⌝ }
     ensures started { λ r. ⌜ r ≡ Feed.started (now (file .entry)) ⌝ }
     ensures words { λ _. ⌜ now (words .exit) ≡ File.wordsOr (now (file .entry)) (now (words .entry)) ⌝ }
-    ensures text { λ _. ⌜ now (room .exit) ≡ over (Recording.startText (now (file .entry))) (now (room .entry)) ⌝ }
-    ensures ready { λ r. ⌜ (r .number ≡ 0 → Recording.Tables (now (words .exit)) (now (file .entry))) ⌝ }
+    ensures text { λ _. ⌜ now (room .exit) ≡ over (Start.startText (now (file .entry))) (now (room .entry)) ⌝ }
+    ensures ready { λ r. ⌜ (r .number ≡ 0 → Start.Tables (now (words .exit)) (now (file .entry))) ⌝ }
     ensures fits { λ r. ⌜ Counts (r .n) (now (room .exit)) ⌝ }
 {
-    let start = recording::begin(file, words, room);
+    let start = heard::begin(file, words, room);
     let recorder = start.recorder;
     let state = recorder.state;
     let line = recorder.line;
@@ -176,7 +176,7 @@ fn take_in(words: &[i16], bytes: &[u8], recorder: Recorder, chunk: &[u8]) -> Rec
 
 // A chunk of the input.
 pub fn feed(words: &[i16], file: &[u8], recorder: Recorder, chunk: &[u8]) -> Recorder
-    requires { ⌜ Recording.Tables (now words) (now file) ⌝ }
+    requires { ⌜ Start.Tables (now words) (now file) ⌝ }
     ensures { λ r. ⌜ r ≡ fedAll (Feed.fedBy (now (file .entry))) recorder (now (chunk .entry)) ⌝ }
 {
     take_in(words, &file[11926..], recorder, chunk)
@@ -206,7 +206,7 @@ fn end_tally(words: &[i16], bytes: &[u8], recorder: Recorder) -> Tally
 
 // The end of the input: its report goes over the beginning of room.
 pub fn report(words: &[i16], file: &[u8], recorder: Recorder, room: &mut [u8]) -> usize
-    requires { ⌜ Recording.Tables (now words) (now file) ⌝ ∗ ⌜ 16384 ≤ length (now room) ⌝ }
+    requires { ⌜ Start.Tables (now words) (now file) ⌝ ∗ ⌜ 16384 ≤ length (now room) ⌝ }
     ensures length { λ r. ⌜ r ≡ length (Feed.endingBy (now (file .entry)) recorder) ⌝ }
     ensures text { λ _. ⌜ now (room .exit) ≡ over (Feed.endingBy (now (file .entry)) recorder) (now (room .entry)) ⌝ }
     ensures fits { λ r. ⌜ Counts r (now (room .exit)) ⌝ }

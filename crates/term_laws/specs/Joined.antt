@@ -8,9 +8,9 @@ use lib.IntN.{ℤ}
 use lib.ListN.{length, getD, length-append}
 use Rattle.sequence.specs.Table.{table, getD-table}
 use Rattle.frame.specs.declared.Subframe.{Subframe}
-use Rattle.celp.specs.declared.State.{State}
-use Rattle.celp.specs.State.{reset, coldStart}
-use Rattle.recording.specs.Recording.{event, lineStep, isStart, opening}
+use Rattle.state.specs.declared.State.{State}
+use Rattle.state.specs.State.{reset, coldStart}
+use Rattle.heard.specs.Recording.{event, lineStep, isStart, opening}
 use Rattle.tally.specs.declared.Subframes.{Subframes}
 use Rattle.tally.specs.declared.Tally.{Tally}
 use Rattle.tally.specs.Figures.{Outcome, howMany, largest, smallest, codeGain, spread, subframesOf, clippedOf, tally}

@@ -20,18 +20,18 @@ use Rattle.bits.specs.Widths.{within-names, fields-within}
 use Rattle.pitch.specs.Pitch.{InRange}
 use Rattle.pitch.specs.Lags.{sane-integer}
 use Rattle.spectral.specs.Kept.{Words16}
-use Rattle.core.specs.declared.SubframeTrace.{SubframeTrace}
-use Rattle.core.specs.Kept.{lags-kept, indexes-kept, classes-kept}
+use Rattle.half.specs.declared.SubframeTrace.{SubframeTrace}
+use Rattle.half.specs.Kept.{lags-kept, indexes-kept, classes-kept}
 use Rattle.frame.specs.declared.Subframe.{Subframe}
 use Rattle.frame.specs.Frame as Frame
-use Rattle.celp.specs.declared.State.{State}
-use Rattle.celp.specs.State as State
-use Rattle.celp.specs.Celp as Celp
-use Rattle.celp.specs.Relied.{started-obeying}
-use Rattle.celp.specs.StateRule.{Obeying, run-obeying}
-use Rattle.celp.specs.Run.{heard, missed, run}
+use Rattle.state.specs.declared.State.{State}
+use Rattle.state.specs.State as State
+use Rattle.calls.specs.Celp as Celp
+use Rattle.calls.specs.Relied.{started-obeying}
+use Rattle.calls.specs.StateRule.{Obeying, run-obeying}
+use Rattle.calls.specs.Run.{heard, missed, run}
 use Rattle.hex.specs.Text as Text
-use Rattle.recording.specs.Recording.{event, lineStep, isStart, opening}
+use Rattle.heard.specs.Recording.{event, lineStep, isStart, opening}
 use Rattle.tally.specs.Figures.{Outcome, those, howMany, class, gainIndex, lagOf, subframesOf, answeredWith}
 use Rattle.term.specs.Term.{recordings, answered, outcome, outcomesFrom, outcomesOf, joined, outcomes}
 use Rattle.term_laws.specs.Whole.{whole-back}

@@ -12,10 +12,10 @@ use Rattle.sequence.specs.Table.{table, table-same}
 use Rattle.tables.specs.Tables.{check}
 use Rattle.spectral.specs.Kept.{Words16}
 use Rattle.frame.specs.declared.Subframe.{Subframe}
-use Rattle.celp.specs.declared.State.{State}
-use Rattle.celp.specs.State.{reset, coldStart}
+use Rattle.state.specs.declared.State.{State}
+use Rattle.state.specs.State.{reset, coldStart}
 use Rattle.hex.specs.Text.{isOnly}
-use Rattle.recording.specs.Recording.{event, lineStep, isStart}
+use Rattle.heard.specs.Recording.{event, lineStep, isStart}
 use Rattle.tally.specs.Figures.{howMany, class, gainIndex, spread, tally}
 use Rattle.term.specs.Term.{isEnd, outcome, outcomes, tallyOf}
 use Rattle.term.specs.Steps.{walk, all-walked}

@@ -3,7 +3,7 @@
 // code gains go from 5 to 7.
 ghost use Prim.Native.Nat.{_≤_, _<_};
 ghost use lib.ListN.{length};
-ghost use Rattle.recording.specs.Feed as Recording;
+ghost use Rattle.heard.specs.Start as Start;
 use tally::Clippings;
 use tally::Subframes;
 use tally::Tally;
@@ -57,7 +57,7 @@ fn least(a: usize, b: usize) -> usize
 }
 
 fn tell(words: &[i16], file: &[u8], recorder: Recorder)
-    requires { ⌜ Recording.Tables (now words) (now file) ⌝ }
+    requires { ⌜ Start.Tables (now words) (now file) ⌝ }
 {
     let mut room = [0u8; 16384];
     let n = term::report(words, file, recorder, &mut room);
@@ -66,7 +66,7 @@ fn tell(words: &[i16], file: &[u8], recorder: Recorder)
 
 // In chunks of 7 bytes, so that lines are cut by them.
 fn count(words: &[i16], file: &[u8], start: Recorder, input: &[u8])
-    requires { ⌜ Recording.Tables (now words) (now file) ⌝ }
+    requires { ⌜ Start.Tables (now words) (now file) ⌝ }
 {
     let mut recorder = start;
     let mut at = 0;

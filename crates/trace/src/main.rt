@@ -1,14 +1,14 @@
 // Prints every figure of every frame of a recording, a line a part: numbers in decimal, floats by their bits.
 // tables.bin lies beside it, the recording comes on standard input, and the state that it starts in, decode's, is said first.
 // A line `digest NAME` begins another recording, with the table file of that name, and from there on 32 bits stand for each part.
-use celp::Answer;
-use celp::State;
-use core::Clipped;
+use calls::Answer;
 use frame::Subframe;
+use half::Clipped;
 use hex::Line;
 use libc::STDOUT_FILENO;
 use questions::size;
 use questions::wide_word;
+use state::State;
 
 fn core_lines(out: &mut [u8; 4096], s: State) -> usize {
     let lsp = s.lsp;
@@ -129,7 +129,7 @@ fn heard(words: &[i16], bytes: &[u8], state: State, line: Line, digest: bool) ->
         return next;
     }
     head(b"refused ", 9, digest);
-    let missed = celp::missed_frame(state);
+    let missed = state::missed_frame(state);
     let next = missed.state;
     state_part(next, digest);
     next
@@ -148,7 +148,7 @@ fn line_over(
         return heard(words, bytes, state, line, digest);
     }
     if hex::is_only(line, b'+') {
-        let start = celp::reset(words, bytes);
+        let start = state::reset(words, bytes);
         let next = start.state;
         state_part(next, digest);
         return next;
@@ -217,7 +217,7 @@ fn read_named(text: &[u8], n: usize, words: &mut [i16; 5963], bytes: &mut [u8; 3
 fn headed(line: Line, words: &mut [i16; 5963], bytes: &mut [u8; 3908]) -> State {
     let text = line.text;
     read_named(&text, line.n, words, bytes);
-    let start = celp::cold_start(words, bytes);
+    let start = state::cold_start(words, bytes);
     start.state
 }
 
@@ -279,7 +279,7 @@ fn read_some(words: &mut [i16; 5963], bytes: &mut [u8; 3908], c: Carried) -> Tur
 
 // The recording; a last line without its end counts too.
 fn run(words: &mut [i16; 5963], bytes: &mut [u8; 3908]) {
-    let start = celp::cold_start(words, bytes);
+    let start = state::cold_start(words, bytes);
     let cold = start.state;
     let mut c = Carried {
         first: true,

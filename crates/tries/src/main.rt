@@ -1,12 +1,12 @@
 // Recordings that decode is tried on. A line of standard input names a table file and a recording; a heading and what decode writes of the two follow.
 ghost use Prim.Native.Nat.{_≤_, _<_};
 ghost use lib.ListN.{length};
-ghost use Rattle.recording.specs.Feed as Feed;
-use recording::Recorder;
+ghost use Rattle.heard.specs.Start as Start;
+use heard::Recorder;
 
 // What one chunk gives, written; an empty one is the end.
 fn part(words: &[i16], file: &[u8], recorder: Recorder, chunk: &[u8]) -> Recorder
-    requires { ⌜ Feed.Tables (now words) (now file) ⌝ ∗ ⌜ length (now chunk) ≤ 999 ⌝ }
+    requires { ⌜ Start.Tables (now words) (now file) ⌝ ∗ ⌜ length (now chunk) ≤ 999 ⌝ }
 {
     let mut room = [0u8; 34592];
     let fed = recording::answer(words, file, recorder, chunk, &mut room);
@@ -24,7 +24,7 @@ fn least(a: usize, b: usize) -> usize
 
 // A recording in chunks of 999 bytes, so that lines are cut by them.
 fn play(words: &[i16], file: &[u8], start: Recorder, input: &[u8])
-    requires { ⌜ Feed.Tables (now words) (now file) ⌝ }
+    requires { ⌜ Start.Tables (now words) (now file) ⌝ }
 {
     let mut recorder = start;
     let mut at = 0;
@@ -43,7 +43,7 @@ fn attempt(tables: &[u8], name: &[u8]) {
     let mut room = [0u8; 40];
     let got = pipe::read_file(tables, &mut file);
     let n = got.n;
-    let start = recording::begin(&file[..n], &mut words, &mut room);
+    let start = heard::begin(&file[..n], &mut words, &mut room);
     let k = start.n;
     pipe::write(&room[..k]);
     if start.number == 0 {

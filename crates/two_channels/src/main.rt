@@ -1,6 +1,6 @@
 // Two channels on one table set: open, read, channels' call, write.
 ghost use Rattle.channels.specs.Feed as Feed;
-ghost use Rattle.recording.specs.Feed as Start;
+ghost use Rattle.heard.specs.Start as Start;
 use channels::Recorder;
 use libc::STDERR_FILENO;
 

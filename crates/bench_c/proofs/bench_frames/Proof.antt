@@ -8,9 +8,9 @@ use native.Mathlib.Omega.{arith}
 use lib.IntN.{ℤ}
 use lib.ListN.{length, take, drop}
 use Rattle.sequence.specs.Repeated.{repeated-none, repeated-again, repeated-end}
-use Rattle.celp.specs.declared.State.{State}
-use Rattle.celp.specs.declared.Returned.{Returned}
-use Rattle.celp.specs.Frames as Frames
+use Rattle.state.specs.declared.State.{State}
+use Rattle.state.specs.declared.Returned.{Returned}
+use Rattle.calls.specs.Frames as Frames
 use Rattle.bench_c.specs.Bench as Bench
 use Rattle.bench_c.proofs.bench_frames.Statement.{statement}
 use Rattle.bench_c.proofs.bench_frames.Tie as tie

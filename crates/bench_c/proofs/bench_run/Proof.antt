@@ -8,10 +8,10 @@ use mathlib.Core.List.{List}
 use lib.IntN.{ℤ}
 use lib.ListN.{take, drop}
 use Rattle.sequence.specs.Repeated.{repeated-none, repeated-again, repeated-end}
-use Rattle.celp.specs.declared.State.{State}
-use Rattle.celp.specs.declared.Returned.{Returned}
-use Rattle.celp.specs.declared.Answer.{Answer}
-use Rattle.celp.specs.Celp as Celp
+use Rattle.state.specs.declared.State.{State}
+use Rattle.state.specs.declared.Returned.{Returned}
+use Rattle.calls.specs.declared.Answer.{Answer}
+use Rattle.calls.specs.Celp as Celp
 use Prim.Native.Nat.{ℕ, _-_, _+_, _*_, _/_, _≤_}
 use lib.ListN.{length}
 use Rattle.bench_c.specs.Bench as Bench

@@ -7,10 +7,11 @@ use lib.ListN.{length}
 use lib.Seq.{length-take-le}
 use borrow.Author.Tests.{eq-eqb, ne-eqb}
 use Rattle.stream.specs.Room.{over, over-none, over-counts, counts}
+use Rattle.verdict.specs.Round.{last}
+use Rattle.verdict.specs.Length.{last-long}
 use Rattle.beside.specs.declared.Heard.{Heard}
-use Rattle.beside.specs.Talk.{last, endText, ended, more, hearTheirs, theirsHeld, theirsText}
-use Rattle.beside.proofs.Texts.{last-long, end-long}
-use Rattle.beside.proofs.Calls.{theirs-last, theirs-more, held-some, text-more, theirs-line, text-line, ended-said}
+use Rattle.beside.specs.Talk.{endText, ended, more, hearTheirs, theirsHeld, theirsText}
+use Rattle.beside.proofs.Calls.{theirs-last, theirs-more, held-some, text-more, theirs-line, text-line, ended-said, end-long}
 use borrow.Author.Needs.{needs}
 use Rattle.beside.proofs.theirs.Statement.{statement}
 use Rattle.beside.proofs.theirs.Tie as tie

@@ -1,6 +1,6 @@
 -- The parts that the calls give are the definition's.
 use borrow.Author.Needs.{needs}
-use Rattle.celp.specs.Celp.{accepted}
+use Rattle.calls.specs.Celp.{accepted}
 use Rattle.celp.proofs.accepted.Statement.{statement}
 use Rattle.celp.proofs.accepted.Tie as tie
 

@@ -1,5 +1,5 @@
 -- The parts are those of the state.
-use Rattle.celp.specs.Celp.{carried}
+use Rattle.calls.specs.Celp.{carried}
 use borrow.Author.Needs.{needs}
 use Rattle.celp.proofs.carried.Statement.{statement}
 use Rattle.celp.proofs.carried.Tie as tie

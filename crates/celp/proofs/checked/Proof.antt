@@ -4,7 +4,7 @@ use denote.Ref.{now}
 use mathlib.Core.Path.{sym, _∙_}
 use borrow.Author.Tests.{eq-eqb, ne-eqb, not-true, not-false}
 use Rattle.tables.specs.Rules.{tests}
-use Rattle.celp.specs.Checks.{checked}
+use Rattle.calls.specs.Checks.{checked}
 use Rattle.celp.proofs.Refusals.{wrong-lengths, right-lengths, broken-rule}
 use Rattle.celp.proofs.checked.Statement.{statement}
 use Rattle.celp.proofs.checked.Tie as tie

@@ -9,12 +9,12 @@ use lib.IntN.{ℤ}
 use lib.ListN.{length}
 use Rattle.tables.specs.Tables.{check}
 use Rattle.tables.specs.Sound.{Sound}
-use Rattle.celp.specs.declared.State.{State}
-use Rattle.celp.specs.State.{obeys, fault}
-use Rattle.celp.specs.Celp.{refusal, refused, decode, samples}
-use Rattle.celp.specs.Cases.{decode-refused, samples-refused}
-use Rattle.celp.specs.Checks.{checked, frameSizes, checked-passed, refusal-checked, frame-right}
-use Rattle.celp.specs.Faults.{four-set}
+use Rattle.state.specs.declared.State.{State}
+use Rattle.state.specs.State.{obeys, fault}
+use Rattle.calls.specs.Celp.{refusal, refused, decode, samples}
+use Rattle.calls.specs.Cases.{decode-refused, samples-refused}
+use Rattle.calls.specs.Checks.{checked, frameSizes, checked-passed, refusal-checked, frame-right}
+use Rattle.calls.specs.Faults.{four-set}
 use Rattle.celp.proofs.decode.Statement.{statement}
 use Rattle.celp.proofs.decode.Tie as tie
 

@@ -9,10 +9,10 @@ use lib.IntN.{ℤ}
 use lib.ListN.{length}
 use Rattle.tables.specs.Tables.{check}
 use Rattle.tables.specs.Sound.{Sound}
-use Rattle.celp.specs.declared.State.{State}
-use Rattle.celp.specs.State.{obeys}
-use Rattle.celp.specs.Checks.{checked, checked-passed, checked-four}
-use Rattle.celp.specs.Frames.{framesSizes, framesRefusal, frames-right, frames-not-four, frames-refused, frames-accepted}
+use Rattle.state.specs.declared.State.{State}
+use Rattle.state.specs.State.{obeys}
+use Rattle.calls.specs.Checks.{checked, checked-passed, checked-four}
+use Rattle.calls.specs.Frames.{framesSizes, framesRefusal, frames-right, frames-not-four, frames-refused, frames-accepted}
 use Rattle.celp.proofs.decode_frames.Statement.{statement}
 use Rattle.celp.proofs.decode_frames.Tie as tie
 

@@ -1,6 +1,6 @@
 -- The tests are those of the definition, in its order.
 use borrow.Author.Tests.{eq-eqb, ne-eqb}
-use Rattle.celp.specs.Checks.{frameSizes}
+use Rattle.calls.specs.Checks.{frameSizes}
 use Rattle.celp.proofs.frame_sizes.Statement.{statement}
 use Rattle.celp.proofs.frame_sizes.Tie as tie
 

@@ -1,7 +1,7 @@
 -- The tests are those of the definition, in its order.
 use borrow.Author.Needs.{needs}
 use borrow.Author.Tests.{eq-eqb, ne-eqb, le-leb, lt-leb}
-use Rattle.celp.specs.Frames.{framesSizes}
+use Rattle.calls.specs.Frames.{framesSizes}
 use Rattle.celp.proofs.frames_sizes.Statement.{statement}
 use Rattle.celp.proofs.frames_sizes.Tie as tie
 

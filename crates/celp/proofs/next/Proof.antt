@@ -1,5 +1,5 @@
 -- The parts are those of the frame.
-use Rattle.celp.specs.Celp.{next}
+use Rattle.calls.specs.Celp.{next}
 use borrow.Author.Needs.{needs}
 use Rattle.celp.proofs.next.Statement.{statement}
 use Rattle.celp.proofs.next.Tie as tie

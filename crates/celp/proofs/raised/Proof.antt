@@ -1,7 +1,7 @@
 -- Below 2 it is one more.
 use borrow.Author.Needs.{needs}
 use native.Mathlib.Omega.{arith}
-use Rattle.celp.specs.Celp.{raised}
+use Rattle.calls.specs.Celp.{raised}
 use Rattle.celp.proofs.raised.Statement.{statement}
 use Rattle.celp.proofs.raised.Tie as tie
 

@@ -1,6 +1,6 @@
 -- The parts that the calls give are the definition's.
 use borrow.Author.Needs.{needs}
-use Rattle.celp.specs.Celp.{refused}
+use Rattle.calls.specs.Celp.{refused}
 use Rattle.celp.proofs.refused.Statement.{statement}
 use Rattle.celp.proofs.refused.Tie as tie
 

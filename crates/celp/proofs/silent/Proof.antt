@@ -1,7 +1,7 @@
 -- Each part is that of the definition.
 use mathlib.Core.Path.{refl}
 use lib.Ieee.{ofBits}
-use Rattle.celp.specs.Celp.{silent}
+use Rattle.calls.specs.Celp.{silent}
 use Rattle.celp.proofs.silent.Statement.{statement}
 use Rattle.celp.proofs.silent.Tie as tie
 

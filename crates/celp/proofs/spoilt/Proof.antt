@@ -5,7 +5,7 @@ use mathlib.Core.Path.{_≡_, ap, _∙_}
 use borrow.Author.Tests.{eq-eqb, ne-eqb}
 use Rattle.bits.specs.Bits.{fieldsOf}
 use Rattle.frame.specs.Frame as Frame
-use Rattle.celp.specs.Checks.{spoilt}
+use Rattle.calls.specs.Checks.{spoilt}
 use Rattle.celp.proofs.Refusals.{in-order}
 use Rattle.celp.proofs.spoilt.Statement.{statement}
 use Rattle.celp.proofs.spoilt.Tie as tie

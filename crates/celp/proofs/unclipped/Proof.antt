@@ -1,6 +1,6 @@
 -- Each part is that of the definition.
 use mathlib.Core.Path.{refl}
-use Rattle.celp.specs.Celp.{unclipped}
+use Rattle.calls.specs.Celp.{unclipped}
 use Rattle.celp.proofs.unclipped.Statement.{statement}
 use Rattle.celp.proofs.unclipped.Tie as tie
 

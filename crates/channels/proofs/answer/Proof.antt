@@ -1,7 +1,7 @@
 -- Nothing is the end of the input.
 use borrow.Author.Needs.{needs}
 use Rattle.stream.specs.Reads.{answer-end, answer-chunk}
-use Rattle.recording.specs.Feed.{part-bytes}
+use Rattle.heard.specs.Start.{part-bytes}
 use Rattle.channels.specs.Feed.{fedBy, writtenBy, endingBy, answered, fedChunk}
 use Rattle.channels.proofs.answer.Statement.{statement}
 use Rattle.channels.proofs.answer.Tie as tie

@@ -1,4 +1,4 @@
--- recording's start, with its state for each channel.
+-- heard's start, with its state for each channel.
 use Rattle.channels.specs.Feed.{from, started}
 use borrow.Author.Needs.{needs}
 use Rattle.channels.proofs.begin.Statement.{statement}

@@ -1,13 +1,13 @@
--- Two bytes, and recording's text behind them.
+-- Two bytes, and heard's text behind them.
 use Prim.Native.Nat.{_+_}
 use mathlib.Core.Path.{_≡_, ap, _∙_}
 use native.Mathlib.Omega.{arith}
 use lib.ListN.{length, length-take, length-drop, length-set}
 use Rattle.stream.specs.Room.{over-long}
 use Rattle.hex.specs.Held.{heldLine}
-use Rattle.recording.specs.declared.Said.{Said}
-use Rattle.recording.specs.Recording.{lineStep, lineText}
-use Rattle.recording.specs.Feed as Start
+use Rattle.heard.specs.declared.Said.{Said}
+use Rattle.heard.specs.Recording.{lineStep, lineText}
+use Rattle.heard.specs.Start as Start
 use Rattle.channels.specs.Channels.{lettered}
 use Rattle.channels.specs.Feed.{worth, called}
 use Rattle.channels.proofs.Lines.{stored-long, lettered-put}

@@ -4,7 +4,7 @@ use native.Mathlib.Omega.{arith}
 use mathlib.Core.Path.{_∙_}
 use mir.Syntax.{w16}
 use Rattle.fixed.specs.Machine.{back}
-use Rattle.core.specs.Accepted.{Accepted, first-usable, second-usable}
+use Rattle.half.specs.Accepted.{Accepted, first-usable, second-usable}
 use Rattle.core.proofs.Parts.{Subframes, samples-are, half-is}
 use Rattle.core.proofs.decode.Statement.{statement}
 use Rattle.core.proofs.decode.Tie as tie

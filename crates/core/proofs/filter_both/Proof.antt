@@ -12,8 +12,8 @@ use Rattle.postfilter.specs.declared.OutputFilter.{OutputFilter}
 use Rattle.postfilter.specs.declared.Filtered.{Filtered}
 use Rattle.postfilter.specs.Postfilter as Postfilter
 use Rattle.postfilter.specs.Blocks.{after-joined, outputs-joined}
-use Rattle.core.specs.declared.Filtered as Both
-use Rattle.core.specs.Core as Spec
+use Rattle.half.specs.declared.Filtered as Both
+use Rattle.half.specs.Core as Spec
 use Rattle.core.proofs.Joined.{eighty, joined, lent}
 use Rattle.core.proofs.filter_both.Statement.{statement}
 use Rattle.core.proofs.filter_both.Tie as tie

@@ -5,7 +5,7 @@ use native.Mathlib.Omega.{arith}
 use Prim.Native.Nat.{_-_}
 use lib.ListN.{drop, length-drop}
 use lib.Seq.{take-all}
-use Rattle.core.specs.Core as Spec
+use Rattle.half.specs.Core as Spec
 use Rattle.core.proofs.kept.Statement.{statement}
 use Rattle.core.proofs.kept.Tie as tie
 

@@ -4,7 +4,7 @@ use mathlib.Core.Path.{ap}
 use mathlib.Core.List.{List, _++_}
 use lib.IntN.{ℤ, pos}
 use lib.ListN.{replicate}
-use Rattle.core.specs.Core as Spec
+use Rattle.half.specs.Core as Spec
 use Rattle.core.proofs.room.Statement.{statement}
 use Rattle.core.proofs.room.Tie as tie
 

@@ -6,7 +6,7 @@ use Rattle.fixed.specs.Machine.{back}
 use Rattle.pitch.specs.declared.Lag.{Lag}
 use Rattle.pitch.specs.Pitch as Pitch
 use Rattle.pitch.specs.Lags.{absolute-sane, sane-integer}
-use Rattle.core.specs.Core as Spec
+use Rattle.half.specs.Core as Spec
 use Rattle.core.proofs.split_params.Statement.{statement}
 use Rattle.core.proofs.split_params.Tie as tie
 

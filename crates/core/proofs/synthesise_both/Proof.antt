@@ -7,10 +7,10 @@ use lib.IntN.{ℤ}
 use lib.ListN.{length, drop}
 use borrow.Rule.Slice.PartMut.{putMid}
 use Rattle.synth.specs.Synth as Synth
-use Rattle.core.specs.declared.Memory.{Memory}
-use Rattle.core.specs.declared.SubframeTrace.{SubframeTrace}
-use Rattle.core.specs.declared.Synthesised.{Synthesised}
-use Rattle.core.specs.Core as Spec
+use Rattle.half.specs.declared.Memory.{Memory}
+use Rattle.half.specs.declared.SubframeTrace.{SubframeTrace}
+use Rattle.half.specs.declared.Synthesised.{Synthesised}
+use Rattle.half.specs.Core as Spec
 use Rattle.core.proofs.Joined.{eighty, joined}
 use Rattle.core.proofs.synthesise_both.Statement.{statement}
 use Rattle.core.proofs.synthesise_both.Tie as tie

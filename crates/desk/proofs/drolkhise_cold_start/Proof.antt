@@ -1,8 +1,8 @@
 -- The lengths decide first; then the answer and the image are those of the call on states.
 use mathlib.Core.Path.{refl, ap, _∙_}
 use borrow.Author.Needs.{needs}
-use Rattle.celp.specs.State.{coldStart}
-use Rattle.desk.specs.Desk.{zeros}
+use Rattle.state.specs.State.{coldStart}
+use Rattle.desk_calls.specs.Desk.{zeros}
 use Rattle.desk.proofs.Outcomes.{words-are, started-is, cold-eleven, cold-one, cold-told}
 use Rattle.desk.proofs.drolkhise_cold_start.Statement.{statement}
 use Rattle.desk.proofs.drolkhise_cold_start.Tie as tie

@@ -4,9 +4,9 @@ use mathlib.Core.Path.{_≡_, refl, sym, ap, _∙_}
 use native.Mathlib.Omega.{arith}
 use lib.IntN.{pos}
 use lib.ListN.{replicate, length-set}
-use Rattle.celp.specs.Celp as Celp
+use Rattle.calls.specs.Celp as Celp
 use Rattle.image.specs.Image.{state}
-use Rattle.desk.specs.Desk.{words, bytes, sampleBytes}
+use Rattle.desk_calls.specs.Desk.{words, bytes, sampleBytes}
 use Rattle.desk.proofs.Outcomes.{words-are, answer-is, samples-are, filled, decode-eleven, decode-one, decode-two, decode-refused, decode-taken}
 use borrow.Author.Needs.{needs}
 use Rattle.desk.proofs.drolkhise_decode.Statement.{statement}

@@ -3,7 +3,7 @@ use Prim.Native.Nat.{_≤_}
 use mathlib.Core.Path.{sym, _∙_}
 use native.Mathlib.Omega.{arith}
 use lib.ListN.{length, length-set}
-use Rattle.desk.specs.FramesSame.{samples-in-top}
+use Rattle.desk_calls.specs.FramesSame.{samples-in-top}
 use Rattle.desk.proofs.Outcomes.{front-long, frames-eleven, frames-one}
 use borrow.Author.Needs.{needs}
 use Rattle.desk.proofs.drolkhise_decode_frames.Statement.{statement}

@@ -1,6 +1,6 @@
 -- The length decides first; the answer is that of the call on the state.
 use mathlib.Core.Path.{ap, _∙_}
-use Rattle.celp.specs.State.{missedFrame}
+use Rattle.state.specs.State.{missedFrame}
 use Rattle.desk.proofs.Outcomes.{missed-eleven, missed-told}
 use native.Mathlib.Omega.{arith}
 use lib.ListN.{length-set}

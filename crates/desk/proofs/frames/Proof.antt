@@ -2,8 +2,8 @@
 use mathlib.Core.Path.{_≡_, refl}
 use native.Mathlib.Omega.{arith}
 use lib.ListN.{length, length-set}
-use Rattle.desk.specs.Desk.{words, standing}
-use Rattle.desk.specs.FramesSame.{samples-in-most}
+use Rattle.desk_calls.specs.Desk.{words, standing}
+use Rattle.desk_calls.specs.FramesSame.{samples-in-most}
 use Rattle.desk.proofs.Outcomes.{words-are, standing-are, frames-declined, frames-accepted}
 use borrow.Author.Needs.{needs}
 use Rattle.desk.proofs.frames.Statement.{statement}

@@ -1,7 +1,7 @@
 -- The tests are those of the definition.
 use borrow.Author.Needs.{needs}
 use borrow.Author.Tests.{eq-eqb, ne-eqb, le-leb, lt-leb}
-use Rattle.desk.specs.Desk.{samplesIn}
+use Rattle.desk_calls.specs.Desk.{samplesIn}
 use Rattle.desk.proofs.samples_in.Statement.{statement}
 use Rattle.desk.proofs.samples_in.Tie as tie
 

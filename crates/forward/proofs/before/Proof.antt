@@ -1,7 +1,7 @@
 -- Forward from the start.
 use borrow.Author.Needs.{needs}
 use mathlib.Core.Path.{ap, _∙_}
-use Rattle.celp.specs.declared.State.{State}
+use Rattle.state.specs.declared.State.{State}
 use Rattle.forward.specs.Forward.{forward, before}
 use Rattle.forward.proofs.before.Statement.{statement}
 use Rattle.forward.proofs.before.Tie as tie

@@ -1,8 +1,8 @@
 -- The call's state is the answer's.
 use borrow.Author.Needs.{needs}
 use mathlib.Core.Path.{ap}
-use Rattle.celp.specs.declared.Answer.{Answer}
-use Rattle.celp.specs.Run.{step}
+use Rattle.calls.specs.declared.Answer.{Answer}
+use Rattle.calls.specs.Run.{step}
 use Rattle.forward.proofs.hear.Statement.{statement}
 use Rattle.forward.proofs.hear.Tie as tie
 

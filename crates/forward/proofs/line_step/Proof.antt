@@ -3,10 +3,10 @@ use borrow.Author.Needs.{needs}
 use mathlib.Core.Path.{sym, _∙_}
 use lib.Dec.{eqb}
 use lib.ListN.{length}
-use Rattle.celp.specs.Run.{step}
+use Rattle.calls.specs.Run.{step}
 use Rattle.hex.specs.Text.{isDigit, isFrame}
 use Rattle.hex.specs.Held.{heldLine}
-use Rattle.recording.specs.Recording.{event, lineStep}
+use Rattle.heard.specs.Recording.{event, lineStep}
 use Rattle.sequence.specs.All.{all, and-right}
 use Rattle.forward.proofs.line_step.Statement.{statement}
 use Rattle.forward.proofs.line_step.Tie as tie

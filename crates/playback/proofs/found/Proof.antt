@@ -2,7 +2,7 @@
 use Rattle.playback.proofs.Steps.{found-save, found-frame, found-none}
 use Rattle.playback.specs.Turns.{shelf}
 use Rattle.seek.specs.declared.Sought.{Sought}
-use Rattle.celp.specs.declared.State.{State}
+use Rattle.state.specs.declared.State.{State}
 use mathlib.Core.Path.{sym, ap, _∙_}
 use Prim.Native.Nat.{_<_, _≤_}
 use Rattle.shelf.specs.Shelf.{SLOTS}

@@ -1,6 +1,6 @@
 -- Nothing to play.
 use mathlib.Core.Path.{ap}
-use Rattle.celp.specs.declared.State.{State}
+use Rattle.state.specs.declared.State.{State}
 use Rattle.playback.specs.declared.Cue.{Cue}
 use borrow.Author.Needs.{needs}
 use Rattle.playback.proofs.silence.Statement.{statement}

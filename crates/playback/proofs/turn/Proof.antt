@@ -4,7 +4,7 @@ use Rattle.hex.specs.File as File
 use mathlib.Core.Path.{sym, _∙_}
 use native.Mathlib.Omega.{arith}
 use Rattle.stream.specs.Room.{over-counts}
-use Rattle.recording.specs.Feed.{part-bytes}
+use Rattle.heard.specs.Start.{part-bytes}
 use borrow.Author.Needs.{needs}
 use Rattle.playback.proofs.turn.Statement.{statement}
 use Rattle.playback.proofs.turn.Tie as tie

@@ -1,7 +1,8 @@
 -- Nothing is the end of the input.
 use borrow.Author.Needs.{needs}
 use Rattle.stream.specs.Reads.{answer-end, answer-chunk}
-use Rattle.recording.specs.Feed.{fedBy, writtenBy, endingBy, answered, fedChunk, part-bytes}
+use Rattle.recording.specs.Feed.{fedBy, writtenBy, endingBy, answered, fedChunk}
+use Rattle.heard.specs.Start.{part-bytes}
 use Rattle.recording.proofs.answer.Statement.{statement}
 use Rattle.recording.proofs.answer.Tie as tie
 

@@ -3,7 +3,7 @@ use mathlib.Core.Path.{refl, ap}
 use native.Mathlib.Omega.{arith}
 use borrow.Author.Tests.{eq-eqb, ne-eqb}
 use Rattle.stream.specs.Room.{over-none, counts}
-use Rattle.recording.specs.declared.Said.{Said}
+use Rattle.heard.specs.declared.Said.{Said}
 use Rattle.recording.specs.Feed.{said, ending}
 use borrow.Author.Needs.{needs}
 use Rattle.recording.proofs.end.Statement.{statement}

@@ -2,8 +2,9 @@
 use mathlib.Core.Path.{refl, sym, _∙_}
 use native.Mathlib.Omega.{arith}
 use Rattle.stream.specs.Room.{over-none}
-use Rattle.recording.specs.Recording.{lineStep, lineText}
-use Rattle.recording.specs.Feed.{called, said, endStep, endText}
+use Rattle.heard.specs.Recording.{lineStep, lineText}
+use Rattle.heard.specs.Start.{called}
+use Rattle.recording.specs.Feed.{said, endStep, endText}
 use borrow.Author.Needs.{needs}
 use Rattle.recording.proofs.end_line.Statement.{statement}
 use Rattle.recording.proofs.end_line.Tie as tie

@@ -1,7 +1,7 @@
 use mathlib.Core.Path.{sym, ap, _∙_}
 use native.Mathlib.Omega.{arith}
 use borrow.Author.Tests.{not-true, not-false}
-use Rattle.celp.specs.State.{obeys}
+use Rattle.state.specs.State.{obeys}
 use Rattle.shelf.specs.Shelf.{fetchLent}
 use Rattle.shelf.specs.Cases.{judged-not, judged-lent, held-out, held-none, held-yes, lent-means}
 use borrow.Author.Needs.{needs}

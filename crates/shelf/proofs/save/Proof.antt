@@ -52,10 +52,10 @@ use Rattle.shelf.specs.Shelf.{judged, refuse, saveLent, imagesAfter, Sav
 use Rattle.shelf.specs.ByValue as ByValue
 use Rattle.shelf.specs.declared.Taking.{Taking}
 use Rattle.shelf.specs.declared.Saved.{Saved}
-use Rattle.celp.specs.declared.State.{State}
+use Rattle.state.specs.declared.State.{State}
 use Rattle.image.specs.Image as Image
-use Rattle.celp.proofs.State as I
-use Rattle.celp.proofs.State.Laws as I′
+use Rattle.state.proofs.State as I
+use Rattle.state.proofs.State.Laws as I′
 use Rattle.shelf.proofs.Saved as P
 use Rattle.shelf.proofs.Saved.Laws as P′
 use Rattle.shelf.proofs.Bridge.{saved}

@@ -5,7 +5,7 @@ use mathlib.Core.List.{List, [], _∷_}
 use mathlib.Core.Path.{_≡_, refl, _∙_}
 use native.Mathlib.Omega.{arith}
 use lib.ListN.{length, getD}
-use Rattle.core.specs.declared.Clipped.{Clipped}
+use Rattle.half.specs.declared.Clipped.{Clipped}
 use Rattle.tally.specs.declared.Clippings.{Clippings}
 use Rattle.tally.proofs.added_all.Statement.{statement}
 use Rattle.tally.proofs.added_all.Tie as tie

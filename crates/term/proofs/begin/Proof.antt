@@ -1,4 +1,4 @@
--- recording's start, with an empty tally.
+-- heard's start, with an empty tally.
 use Rattle.term.specs.Feed.{started}
 use borrow.Author.Needs.{needs}
 use Rattle.term.proofs.begin.Statement.{statement}

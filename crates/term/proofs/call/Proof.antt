@@ -4,7 +4,7 @@ use lib.Dec.{eqb}
 use lib.ListN.{length}
 use Rattle.sequence.specs.All.{all, and-right}
 use Rattle.hex.specs.Text.{isDigit, isFrame}
-use Rattle.recording.specs.Recording.{event}
+use Rattle.heard.specs.Recording.{event}
 use Rattle.hex.specs.Held.{heldLine}
 use Rattle.term.specs.Steps.{lineCalled}
 use Rattle.term.proofs.Calls.{called-missed}

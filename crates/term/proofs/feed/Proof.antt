@@ -1,6 +1,6 @@
 -- The words and bytes are the file's.
 use borrow.Author.Needs.{needs}
-use Rattle.recording.specs.Feed.{part-bytes}
+use Rattle.heard.specs.Start.{part-bytes}
 use Rattle.term.proofs.feed.Statement.{statement}
 use Rattle.term.proofs.feed.Tie as tie
 

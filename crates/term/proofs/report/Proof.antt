@@ -1,5 +1,5 @@
 -- The report of the tally where the input ends.
-use Rattle.recording.specs.Feed.{part-bytes}
+use Rattle.heard.specs.Start.{part-bytes}
 use borrow.Author.Needs.{needs}
 use Rattle.term.proofs.report.Statement.{statement}
 use Rattle.term.proofs.report.Tie as tie

@@ -1,0 +1,17 @@
+pub mod Celp
+pub mod Cases
+pub mod Faults
+pub mod Run
+pub mod Mark
+pub mod TwoCalls
+pub mod Accepted
+pub mod Checks
+pub mod Frames
+pub mod FramesLaws
+pub mod StateRule
+pub mod Near
+pub mod Receiver
+pub mod Relied
+pub mod SureAgain
+pub mod Regained
+pub mod WorkedCall
