@@ -1,6 +1,7 @@
 // The proved logarithm and exponential against the f64 answer, on every f32 in their ranges, and tools/elementary.c against them.
 #include <math.h>
 #include <stdio.h>
+#include <stdlib.h>
 
 #include "float_bits.h"
 
@@ -50,14 +51,17 @@ static int report(const char *name, struct run run) {
     return run.over != 0 || run.other != 0;
 }
 
-int main(void) {
+// Every argument, or with a number as the first word every so many-th.
+int main(int words, char **word) {
+    uint32_t step = words > 1 ? (uint32_t)atoi(word[1]) : 1;
+    if (step == 0) step = 1;
     int bad = 0;
     struct run ln = {0}, up = {0}, down = {0};
-    for (uint32_t n = bits(1.0f); n <= bits(1073741824.0f); n++) one(&ln, n, gain_ln(from_bits(n)), steps_ln(from_bits(n)), log((double)from_bits(n)));
+    for (uint32_t n = bits(1.0f); n <= bits(1073741824.0f); n += step) one(&ln, n, gain_ln(from_bits(n)), steps_ln(from_bits(n)), log((double)from_bits(n)));
     bad |= report("ln 1 ..= 2^30", ln);
-    for (uint32_t n = bits(0.0f); n <= bits(10.5f); n++) one(&up, n, gain_exp(from_bits(n)), steps_exp(from_bits(n)), exp((double)from_bits(n)));
+    for (uint32_t n = bits(0.0f); n <= bits(10.5f); n += step) one(&up, n, gain_exp(from_bits(n)), steps_exp(from_bits(n)), exp((double)from_bits(n)));
     bad |= report("exp 0 ..= 10.5", up);
-    for (uint32_t n = bits(-0.0f); n <= bits(-1.0f); n++) one(&down, n, gain_exp(from_bits(n)), steps_exp(from_bits(n)), exp((double)from_bits(n)));
+    for (uint32_t n = bits(-0.0f); n <= bits(-1.0f); n += step) one(&down, n, gain_exp(from_bits(n)), steps_exp(from_bits(n)), exp((double)from_bits(n)));
     bad |= report("exp -1 ..= -0", down);
     uint32_t zero = bits(gain_ln(1.0f));
     printf("ln 1 is 0x%08x\n", zero);

@@ -6,6 +6,7 @@
 #include <stdlib.h>
 #include <string.h>
 #include <time.h>
+#include <unistd.h>
 
 enum { WORDS = 5963, BYTES = 3908, TABLES = 2 * WORDS + BYTES, IMAGE = 526 };
 
@@ -118,6 +119,9 @@ static void compare(const uint8_t *frames, size_t count, int turns) {
     if (differ) printf("    THE LAST FRAME OF SINGLE CALLS IS ANOTHER\n");
 }
 
+// A system call that there is not: the emulator's plugin (count.c) writes there how many instructions were run so far.
+enum { MARK = 24242 };
+
 int main(int argc, char **argv) {
     if (argc != 4 && argc != 5) return fprintf(stderr, "bench TABLES RECORDING TURNS|ours|desk|rust|together N\n"), 2;
     FILE *file = fopen(argv[1], "rb"), *recording = fopen(argv[2], "rb");
@@ -128,15 +132,19 @@ int main(int argc, char **argv) {
     size_t count = read_frames(recording, &frames);
     int16_t samples[320];
     if (!strcmp(argv[3], "ours") || !strcmp(argv[3], "desk") || !strcmp(argv[3], "rust")) {
+        syscall(MARK);
         if (argv[3][0] == 'o') counted_ours(frames, count, samples);
         else if (argv[3][0] == 'd') counted_desk(frames, count, samples);
         else counted_rust(frames, count, samples);
+        syscall(MARK);
         printf("%zu\n", count);
         return 0;
     }
     for (int k = 0; k < SIZES; k++)
         if (argc == 5 && (size_t)atoi(argv[4]) == in_a_call[k]) {
+            syscall(MARK);
             counted_together(frames, count - count % 64, in_a_call[k]);
+            syscall(MARK);
             printf("%zu\n", count - count % 64);
             return 0;
         }
