@@ -2,7 +2,7 @@
 use Prim.Native.Nat.{ℕ, zero, suc}
 use mathlib.Core.List.{List}
 use Rattle.stream.specs.Lines.{lines}
-use Rattle.hex.specs.File as File
+use Rattle.table_file.specs.File as File
 use Rattle.heard.specs.Recording.{transcript, tablesText}
 use Rattle.verdict.specs.Verdict.{judge}
 

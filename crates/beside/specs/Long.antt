@@ -15,11 +15,11 @@ use Rattle.bits.specs.declared.HalfParams.{HalfParams}
 use Rattle.bits.specs.declared.FrameParams.{FrameParams}
 use Rattle.bits.specs.Bits.{fieldsOf}
 use Rattle.synth.specs.Synth as Synth
-use Rattle.postfilter.specs.Postfilter.{length-outputs}
+use Rattle.output_filter.specs.Postfilter.{length-outputs}
 use Rattle.half.specs.declared.Core.{Core}
 use Rattle.half.specs.declared.SubframeTrace.{SubframeTrace}
 use Rattle.half.specs.Core as HalfFrame
-use Rattle.frame.specs.Frame as Frame
+use Rattle.observation.specs.Frame as Frame
 use Rattle.tables.specs.Tables.{check, unsigned}
 use Rattle.state.specs.declared.State.{State}
 use Rattle.state.specs.State as Start

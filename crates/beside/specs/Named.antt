@@ -4,7 +4,7 @@ use mathlib.Core.Path.{_≡_}
 use mathlib.Core.List.{List}
 use native.Mathlib.Omega.{arith}
 use Rattle.stream.specs.Lines.{lines}
-use Rattle.hex.specs.File as File
+use Rattle.table_file.specs.File as File
 use Rattle.heard.specs.Recording.{transcript}
 use Rattle.verdict.specs.Differs.{Named, judge-named}
 use Rattle.beside.specs.Beside.{output, program}

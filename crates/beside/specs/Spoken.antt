@@ -18,7 +18,7 @@ use Rattle.stream.specs.Decimal.{decimal}
 use Rattle.stream.specs.Reads.{Read, inputOf, answers-joined}
 use Rattle.stream.specs.Reads as Reads
 use Rattle.hex.specs.Held as Held
-use Rattle.hex.specs.File as File
+use Rattle.table_file.specs.File as File
 use Rattle.state.specs.State as Start
 use Rattle.state.specs.declared.State.{State}
 use Rattle.heard.specs.declared.Recorder.{Recorder}

@@ -419,7 +419,8 @@ fn width_number(fields: [u16; 24]) -> u8
     0
 }
 
-fn half_params(fields: [u16; 24], at: usize) -> HalfParams
+// The fields of a half, of which the first is at a place.
+pub fn half_params(fields: [u16; 24], at: usize) -> HalfParams
     requires { ⌜ at ≤ 12 ⌝ }
     ensures { λ r. ⌜ r ≡ Bits.halfParams fields at ⌝ }
 {
@@ -439,7 +440,8 @@ fn half_params(fields: [u16; 24], at: usize) -> HalfParams
     }
 }
 
-fn list(f: FrameParams) -> [u16; 24]
+// The fields of both halves, one after the other.
+pub fn list(f: FrameParams) -> [u16; 24]
     ensures { λ r. ⌜ r ≡ Bits.list f ⌝ }
 {
     let x = f.first;

@@ -16,7 +16,7 @@ use Rattle.tables.specs.Tables.{broken}
 use Rattle.tables.specs.Rules.{obeys}
 use Rattle.tables.specs.Sound.{Sound}
 use Rattle.bits.specs.Bits.{fieldsOf}
-use Rattle.frame.specs.Frame as Frame
+use Rattle.observation.specs.Frame as Frame
 use Rattle.state.specs.declared.State.{State}
 use Rattle.state.specs.State as State
 use Rattle.calls.specs.Celp.{refusal}

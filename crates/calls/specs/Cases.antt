@@ -5,7 +5,7 @@ use mathlib.Core.List.{List}
 use lib.IntN.{ℤ}
 use lib.ListN.{length}
 use Rattle.bits.specs.Bits.{fieldsOf}
-use Rattle.frame.specs.Frame as Frame
+use Rattle.observation.specs.Frame as Frame
 use Rattle.state.specs.declared.State.{State}
 use Rattle.state.specs.State.{fallen, fault}
 use Rattle.calls.specs.Celp.{refusal, refused, carried, decoded, accepted, answer, decode, written, samples}

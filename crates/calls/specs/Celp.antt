@@ -15,9 +15,9 @@ use Rattle.tables.specs.Tables.{broken}
 use Rattle.bits.specs.Bits.{fieldsOf}
 use Rattle.half.specs.declared.Clipped.{Clipped}
 use Rattle.half.specs.declared.Core.{Core}
-use Rattle.frame.specs.declared.Subframe.{Subframe}
-use Rattle.frame.specs.declared.Decoded.{Decoded}
-use Rattle.frame.specs.Frame as Frame
+use Rattle.observation.specs.declared.Subframe.{Subframe}
+use Rattle.observation.specs.declared.Decoded.{Decoded}
+use Rattle.observation.specs.Frame as Frame
 use Rattle.sure.specs.declared.Sure.{Sure}
 use Rattle.sure.specs.Sure as Sure
 use Rattle.state.specs.declared.State.{State}

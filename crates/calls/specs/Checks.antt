@@ -14,8 +14,8 @@ use Rattle.tables.specs.Places.{WORDS, BYTES}
 use Rattle.tables.specs.Tables.{broken, check}
 use Rattle.tables.specs.Rules.{tests, accepted}
 use Rattle.tables.specs.Sound.{Sound, sound}
-use Rattle.bits.specs.Bits.{fieldsOf}
-use Rattle.frame.specs.Frame as Frame
+use Rattle.bits.specs.Bits.{unpack, fields, fieldsOf}
+use Rattle.observation.specs.Frame as Frame
 use Rattle.state.specs.declared.State.{State}
 use Rattle.state.specs.State.{obeys, fault}
 use Rattle.calls.specs.Celp.{refusal}
@@ -129,3 +129,8 @@ spoilt-told words bytes payload = by (not (eqb (bitAnd (getD payload 19 0) 0xc0)
     by true b = refl
     by false true = refl
     by false false = refl
+
+-- a payload of 20 bytes with nothing in its last two bits has fields
+pub in-order : (p : List ℕ) → length p ≡ 20 → bitAnd (getD p 19 0) 0xc0 ≡ 0 → fields (unpack p) ≡ fieldsOf p
+unfolding unpack
+in-order p l e = rw (eq-eqb (length p) 20 l, eq-eqb (bitAnd (getD p 19 0) 192) 0 e)

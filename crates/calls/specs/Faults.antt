@@ -12,7 +12,7 @@ use Rattle.sequence.specs.First.{some}
 use Rattle.tables.specs.Places.{WORDS, BYTES}
 use Rattle.tables.specs.Tables.{broken, check}
 use Rattle.bits.specs.Bits.{fieldsOf}
-use Rattle.frame.specs.Frame as Frame
+use Rattle.observation.specs.Frame as Frame
 use Rattle.state.specs.declared.State.{State}
 use Rattle.state.specs.State.{obeys, fault}
 use Rattle.state.specs.Faults.{Tells, by-number}

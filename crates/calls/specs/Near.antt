@@ -2,7 +2,7 @@
 use Prim.Native.Nat.{_≤_}
 use mathlib.Core.Path.{_≡_, refl}
 use native.Mathlib.Omega.{arith}
-use Rattle.frame.specs.Depends as Frame
+use Rattle.observation.specs.Depends as Frame
 use Rattle.state.specs.declared.State.{State}
 use Rattle.calls.specs.Celp.{carried}
 

@@ -11,7 +11,7 @@ use Rattle.tables.specs.Rules as Rules
 use Rattle.bits.specs.Bits.{fieldsOf}
 use Rattle.bits.specs.Widths.{within-names, fields-within}
 use Rattle.half.specs.Core.{part}
-use Rattle.frame.specs.declared.Decoded.{Decoded}
+use Rattle.observation.specs.declared.Decoded.{Decoded}
 use Rattle.sure.specs.Sure.{surer, holds, through, after}
 use Rattle.sure.specs.Again.{Agreed}
 use Rattle.sure.specs.AgainFrame.{FrameAgain, frame-long, frame-again, after-same, after-left}

@@ -9,7 +9,7 @@ use lib.IntN.{ℤ}
 use Rattle.tables.specs.Tables.{check}
 use Rattle.bits.specs.Bits.{fieldsOf}
 use Rattle.spectral.specs.Kept.{Words16}
-use Rattle.frame.specs.Depends as Frame
+use Rattle.observation.specs.Depends as Frame
 use Rattle.state.specs.declared.State.{State}
 use Rattle.state.specs.State.{startedBy, started, coldStart, missedFrame, initial, allZero}
 use Rattle.calls.specs.Celp.{refusal, raised, carried, decoded, next, accepted, answer, refused, decode}

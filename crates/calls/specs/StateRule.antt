@@ -20,7 +20,7 @@ use Rattle.gain.specs.Gain as Gain
 use Rattle.gain.specs.Kept.{initial-bounded}
 use Rattle.spectral.specs.Spectral as Spectral
 use Rattle.spectral.specs.Kept.{Words16, initial-kept}
-use Rattle.frame.specs.Kept.{Kept, decode-kept}
+use Rattle.observation.specs.Kept.{Kept, decode-kept}
 use Rattle.sure.specs.Sure.{after, left-le}
 use Rattle.state.specs.declared.State.{State}
 use Rattle.state.specs.State as State

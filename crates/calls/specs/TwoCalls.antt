@@ -5,8 +5,8 @@ use mathlib.Core.List.{List}
 use lib.IntN.{ℤ}
 use lib.ListN.{length}
 use Rattle.bits.specs.Bits.{fieldsOf}
-use Rattle.frame.specs.declared.Decoded.{Decoded}
-use Rattle.frame.specs.Frame as Frame
+use Rattle.observation.specs.declared.Decoded.{Decoded}
+use Rattle.observation.specs.Frame as Frame
 use Rattle.sure.specs.Sure.{after}
 use Rattle.state.specs.declared.State.{State}
 use Rattle.calls.specs.declared.Answer.{Answer}

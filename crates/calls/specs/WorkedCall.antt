@@ -17,12 +17,12 @@ use Rattle.tables.specs.Rules.{tests}
 use Rattle.tables.specs.Bare.{bareWords, bareBytes, fromLimit, fromBases, fromPulses, fromSelectors, fromEntries, bare-accepted}
 use Rattle.floats.specs.Floats.{bitsAt, quantise}
 use Rattle.bits.specs.Bits.{groups, inverted, bitAt, readBit, gather, fieldsOf, gainIndex}
-use Rattle.codebook.specs.Codebook as Codebook
+use Rattle.code_index.specs.Codebook as Codebook
 use Rattle.spectral.specs.Kept.{Words16}
 use Rattle.half.specs.Core.{part}
 use Rattle.half.specs.Figures.{pitchGain, pitch-gains}
-use Rattle.frame.specs.declared.Decoded.{Decoded}
-use Rattle.frame.specs.Frame as Frame
+use Rattle.observation.specs.declared.Decoded.{Decoded}
+use Rattle.observation.specs.Frame as Frame
 use Rattle.sure.specs.Sure.{surer, holds, through, after}
 use Rattle.state.specs.declared.State.{State}
 use Rattle.calls.specs.declared.Answer.{Answer}

@@ -26,8 +26,8 @@ use Rattle.spectral.specs.Cases as SpectralCases
 use Rattle.pitch.specs.Pitch as Pitch
 use Rattle.pitch.specs.Cases as PitchCases
 use Rattle.pitch.specs.declared.Lag.{Lag}
-use Rattle.codebook.specs.Codebook as Codebook
-use Rattle.codebook.specs.Cases as CodebookCases
+use Rattle.code_index.specs.Codebook as Codebook
+use Rattle.code_index.specs.Cases as CodebookCases
 
 -- -n
 abbrev pub minus : ℕ → ℤ

@@ -1,61 +1,22 @@
--- What the set's number says of the two tests that it joins, and what is known of a frame that no test refuses.
+-- What is known of a frame that no test refuses.
 use Prim.Native.Nat.{ℕ}
 use mathlib.Core.Path.{_≡_, refl, sym, ap, _∙_}
 use mathlib.Core.List.{List}
-use mathlib.Core.Bool.{Bool, true, false, cond, _&&_}
-use native.Mathlib.Omega.{arith}
-use borrow.Author.Tests.{eq-eqb}
-use lib.Bits.{bitAnd}
-use lib.Dec.{eqb}
+use mathlib.Core.Bool.{true}
 use lib.IntN.{ℤ}
-use lib.ListN.{length, getD}
-use Rattle.sequence.specs.First.{some}
-use Rattle.tables.specs.Places.{WORDS, BYTES}
-use Rattle.tables.specs.Tables.{broken, check}
+use lib.ListN.{length}
 use Rattle.tables.specs.Sound.{Sound}
 use Rattle.tables.specs.declared.Fault.{Fault}
 use Rattle.bits.specs.declared.FrameParams.{FrameParams}
 use Rattle.bits.specs.Bits.{unpack, fields, fieldsOf}
 use Rattle.bits.specs.Widths.{InWidths, within-names, fields-within}
-use Rattle.frame.specs.Frame as Frame
+use Rattle.observation.specs.Frame as Frame
 use Rattle.state.specs.declared.State.{State}
 use Rattle.state.specs.State.{obeys, fault}
 use Rattle.calls.specs.Celp.{refusal, refused, carried, decoded, accepted, decode, samples}
 use Rattle.calls.specs.Cases.{decode-refused, decode-accepted, samples-refused, samples-accepted}
 use Rattle.calls.specs.Accepted.{accepted-means}
-use Rattle.calls.specs.Checks.{spoilt, refusal-spoilt, spoilt-told}
-
-module _ (words : List ℤ) (bytes : List ℕ) where
-  pub wrong-lengths : check words bytes ≡ 1 → (eqb (length words) WORDS && eqb (length bytes) BYTES) ≡ false
-  unfolding check
-  wrong-lengths e = by (eqb (length words) WORDS && eqb (length bytes) BYTES) (some (broken words bytes) 7) e
-    where
-      by : (a b : Bool) → _≡_ {A = ℕ} (cond a (cond b 4 0) 1) 1 → a ≡ false
-      by true true e = absurd (omega arith)
-      by true false e = absurd (omega arith)
-      by false b e = refl
-
-  pub right-lengths : (n : ℕ) → n ≡ check words bytes → (n ≡ 1 → ⊥) → (eqb (length words) WORDS && eqb (length bytes) BYTES) ≡ true
-  unfolding check
-  right-lengths n e h = by (eqb (length words) WORDS && eqb (length bytes) BYTES) e
-    where
-      by : (a : Bool) → n ≡ cond a (cond (some (broken words bytes) 7) 4 0) 1 → a ≡ true
-      by true e = refl
-      by false e = absurd (h e)
-
-  pub broken-rule : (n : ℕ) → n ≡ check words bytes → (n ≡ 1 → ⊥) → (n ≡ 0 → ⊥) → some (broken words bytes) 7 ≡ true
-  unfolding check
-  broken-rule n e h g = by (eqb (length words) WORDS && eqb (length bytes) BYTES) (some (broken words bytes) 7) e
-    where
-      by : (a b : Bool) → n ≡ cond a (cond b 4 0) 1 → b ≡ true
-      by true true e = refl
-      by true false e = absurd (g e)
-      by false b e = absurd (h e)
-
--- a payload of 20 bytes with nothing in its last two bits has fields
-pub in-order : (p : List ℕ) → length p ≡ 20 → bitAnd (getD p 19 0) 0xc0 ≡ 0 → fields (unpack p) ≡ fieldsOf p
-unfolding unpack
-in-order p l e = rw (eq-eqb (length p) 20 l, eq-eqb (bitAnd (getD p 19 0) 192) 0 e)
+use Rattle.calls.specs.Checks.{spoilt, refusal-spoilt, spoilt-told, in-order}
 
 -- what is known where a frame is decoded, and what comes of it: n is what its payload is refused with, f the fields that were read
 pub record Ready (words : List ℤ) (bytes : List ℕ) (s : State) (payload : List ℕ) (old : List ℤ) (f : FrameParams) : Type 0 where

@@ -13,7 +13,7 @@ use Rattle.stream.specs.Lines.{lines}
 use Rattle.stream.specs.Told.{texts}
 use Rattle.state.specs.State.{fault, coldStart, missedFrame}
 use Rattle.hex.specs.Text.{refusedText}
-use Rattle.hex.specs.File as File
+use Rattle.table_file.specs.File as File
 use Rattle.heard.specs.Recording.{lineStep, lineText, tablesText}
 use Rattle.channels.specs.declared.Pair.{Pair}
 use Rattle.channels.specs.declared.Whose.{Whose}

@@ -17,7 +17,7 @@ use Rattle.state.specs.declared.State.{State}
 use Rattle.hex.specs.declared.Line.{Line}
 use Rattle.hex.specs.Text.{isFrame}
 use Rattle.hex.specs.Held as Hex
-use Rattle.hex.specs.File as File
+use Rattle.table_file.specs.File as File
 use Rattle.heard.specs.declared.Said.{Said}
 use Rattle.heard.specs.Recording.{event, lineStep, lineText, tablesText}
 use Rattle.heard.specs.Start as Start

@@ -7,7 +7,7 @@ ghost use Rattle.io.specs.Counts.{Counts};
 ghost use Rattle.tables.specs.Places.{WORDS};
 ghost use Rattle.stream.specs.Room.{over};
 ghost use Rattle.stream.specs.Machine.{writtenAll};
-ghost use Rattle.hex.specs.File as File;
+ghost use Rattle.table_file.specs.File as File;
 ghost use Rattle.hex.specs.Held as Hex;
 ghost use Rattle.hex.specs.Text as Text;
 ghost use Rattle.heard.specs.Recording as Recording;

@@ -4,7 +4,7 @@ use mathlib.Core.List.{List}
 use Prim.Native.Nat.{ℕ}
 use lib.IntN.{ℤ}
 use Rattle.bits.specs.declared.HalfParams.{HalfParams}
-use Rattle.postfilter.specs.Postfilter as Postfilter
+use Rattle.output_filter.specs.Postfilter as Postfilter
 use Rattle.half.specs.declared.Core.{Core}
 use Rattle.half.specs.declared.Counts.{Counts}
 use Rattle.half.specs.declared.Filtered.{Filtered}

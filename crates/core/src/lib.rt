@@ -4,10 +4,10 @@ ghost use mathlib.Core.Bool.{true};
 ghost use lib.ListN.{length};
 ghost use Rattle.tables.specs.Places.{WORDS};
 ghost use Rattle.tables.specs.Sound.{Sound};
-ghost use Rattle.codebook.specs.Codebook as Codebook;
+ghost use Rattle.code_index.specs.Codebook as Codebook;
 ghost use Rattle.bits.specs.Widths.{InWidths};
 ghost use Rattle.synth.specs.Synth as Synth;
-ghost use Rattle.postfilter.specs.Postfilter as Postfilter;
+ghost use Rattle.output_filter.specs.Postfilter as Postfilter;
 ghost use Rattle.half.specs.Core as Spec;
 use bits::HalfParams;
 use bits::gain_index;
@@ -21,9 +21,9 @@ use half::SubframeParams;
 use half::SubframeTrace;
 use half::Synthesised;
 use lsp::interpolate_pair;
+use output_filter::OutputFilter;
 use pitch::decode_absolute;
 use pitch::decode_relative;
-use postfilter::OutputFilter;
 use slices::copy;
 
 // What the fields and the spectrum settle of both subframes of a half.

@@ -17,7 +17,7 @@ use Rattle.sequence.specs.Table.{table, table-same}
 use Rattle.tables.specs.Places.{WORDS, BYTES}
 use Rattle.tables.specs.Tables.{broken, check}
 use Rattle.bits.specs.Bits.{fieldsOf}
-use Rattle.frame.specs.Frame as Frame
+use Rattle.observation.specs.Frame as Frame
 use Rattle.state.specs.declared.State.{State}
 use Rattle.state.specs.State.{fallen, obeys, initial, startedBy, started, reset, coldStart, missedFrame}
 use Rattle.calls.specs.Celp as Celp

@@ -17,7 +17,7 @@ use Rattle.bits.specs.declared.Unpacked.{Unpacked}
 use Rattle.bits.specs.Bits as Bits
 use Rattle.state.specs.State.{fault}
 use Rattle.state.specs.Faults.{four-long}
-use Rattle.hex.specs.File as File
+use Rattle.table_file.specs.File as File
 use Rattle.image.specs.Bytes.{bytesOf, numberAt}
 use Rattle.image.specs.Parts.{numbersAt}
 use Rattle.desk_fields.specs.Fields.{FIELDS, TOLD, byteOf, bytesOfFields, bytes-are, fieldsOfBytes, bytesOfFault}

@@ -5,7 +5,7 @@ use mathlib.Core.Bool.{not, cond}
 use lib.Dec.{eqb}
 use lib.ListN.{length}
 use Rattle.bits.specs.Bits as Bits
-use Rattle.hex.specs.File as File
+use Rattle.table_file.specs.File as File
 use Rattle.state.specs.State.{fault}
 use Rattle.desk_fields.specs.Fields.{FIELDS, TOLD, bytesOfFields, fieldsOfBytes, bytesOfFault}
 

@@ -14,7 +14,7 @@ use Rattle.tables.specs.Tables.{count, place, firstFault, check}
 use Rattle.tables.specs.Told.{told}
 use Rattle.state.specs.State.{fault}
 use Rattle.state.specs.Faults.{Tells, rule-of-six}
-use Rattle.hex.specs.File as File
+use Rattle.table_file.specs.File as File
 use Rattle.image.specs.Bytes.{bytesOf, numberAt, number-behind, number-back}
 use Rattle.desk_fields.specs.Fields.{TOLD, bytesOfFault, faultOfBytes}
 use Rattle.desk_fields.specs.Calls.{TABLES, checkNumber, checkTold}

@@ -6,12 +6,11 @@ ghost use Rattle.sequence.specs.Table.{table};
 ghost use Rattle.bits.specs.Bits as Bits;
 ghost use Rattle.image.specs.Bytes.{numberAt};
 ghost use Rattle.image.specs.Parts.{numbersAt};
-ghost use Rattle.hex.specs.File as File;
+ghost use Rattle.table_file.specs.File as File;
 ghost use Rattle.state.specs.State as State;
 ghost use Rattle.desk_fields.specs.Fields as Fields;
 ghost use Rattle.desk_fields.specs.Calls as Calls;
 use bits::FrameParams;
-use bits::HalfParams;
 use bits::Unpacked;
 use tables::Fault;
 
@@ -34,7 +33,7 @@ fn fault(number: u8, words: &[i16], tables: &[u8]) -> Fault
     ensures { λ r. ⌜ r ≡ State.fault number (File.words (now (tables .entry))) (File.bytes (now (tables .entry))) ⌝ }
 {
     if number == 4 {
-        return tables::first_fault(words, &tables[BYTES..]);
+        return rules::first_fault(words, &tables[BYTES..]);
     }
     Fault { rule: 0, place: 0 }
 }
@@ -59,7 +58,7 @@ pub fn check_tables(tables: &[u8], told: &mut [u8]) -> u8
         return NO_ROOM;
     }
     let mut words = [0i16; 5963];
-    let number = hex::check_file(tables, &mut words);
+    let number = table_file::check_file(tables, &mut words);
     put_fault(fault(number, &words, tables), told);
     number
 }
@@ -90,59 +89,6 @@ fn numbers(fields: &[u8]) -> [u16; 24]
         k += 1;
     }
     read
-}
-
-fn half_params(fields: [u16; 24], at: usize) -> HalfParams
-    requires { ⌜ at < 13 ⌝ }
-    ensures { λ r. ⌜ r ≡ Bits.halfParams fields at ⌝ }
-{
-    HalfParams {
-        gain_low0: fields[at],
-        gain_low1: fields[at + 1],
-        code0: fields[at + 2],
-        code1: fields[at + 3],
-        gain_high0: fields[at + 4],
-        gain_high1: fields[at + 5],
-        mode: fields[at + 6],
-        stage1: fields[at + 7],
-        stage2_low: fields[at + 8],
-        stage2_high: fields[at + 9],
-        absolute_pitch: fields[at + 10],
-        relative_pitch: fields[at + 11],
-    }
-}
-
-fn list(f: FrameParams) -> [u16; 24]
-    ensures { λ r. ⌜ r ≡ Bits.list f ⌝ }
-{
-    let x = f.first;
-    let y = f.second;
-    [
-        x.gain_low0,
-        x.gain_low1,
-        x.code0,
-        x.code1,
-        x.gain_high0,
-        x.gain_high1,
-        x.mode,
-        x.stage1,
-        x.stage2_low,
-        x.stage2_high,
-        x.absolute_pitch,
-        x.relative_pitch,
-        y.gain_low0,
-        y.gain_low1,
-        y.code0,
-        y.code1,
-        y.gain_high0,
-        y.gain_high1,
-        y.mode,
-        y.stage1,
-        y.stage2_low,
-        y.stage2_high,
-        y.absolute_pitch,
-        y.relative_pitch,
-    ]
 }
 
 fn low(n: u16) -> u8
@@ -195,7 +141,7 @@ pub fn unpack(payload: &[u8], fields: &mut [u8]) -> u8
         return NO_ROOM;
     }
     let u = bits::unpack(payload);
-    let read = list(bits::fields(u));
+    let read = bits::list(bits::fields(u));
     write(&read, fields);
     number(u)
 }
@@ -209,7 +155,7 @@ pub fn pack(fields: &[u8], payload: &mut [u8]) -> u8
         return NO_ROOM;
     }
     let read = numbers(fields);
-    let first = half_params(read, 0);
-    let second = half_params(read, 12);
+    let first = bits::half_params(read, 0);
+    let second = bits::half_params(read, 12);
     bits::pack(FrameParams { first, second }, payload)
 }

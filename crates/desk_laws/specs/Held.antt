@@ -30,15 +30,15 @@ use Rattle.spectral.specs.Spectral as Spectral
 use Rattle.spectral.specs.Kept.{Words16, length-residual}
 use Rattle.spectral.specs.Pushed.{push-at}
 use Rattle.synth.specs.Synth as Synth
-use Rattle.postfilter.specs.declared.OutputFilter.{OutputFilter}
-use Rattle.postfilter.specs.declared.Taps.{Taps}
-use Rattle.postfilter.specs.Postfilter as Postfilter
+use Rattle.output_filter.specs.declared.OutputFilter.{OutputFilter}
+use Rattle.output_filter.specs.declared.Taps.{Taps}
+use Rattle.output_filter.specs.Postfilter as Postfilter
 use Rattle.half.specs.declared.Core.{Core}
 use Rattle.half.specs.Core as Spec
 use Rattle.half.specs.Figures.{pushed, left-gains}
 use Rattle.half.specs.Kept.{fixed-kept, lag-kept}
 use Rattle.full.specs.Room.{length-excited}
-use Rattle.frame.specs.Frame as Frame
+use Rattle.observation.specs.Frame as Frame
 use Rattle.sure.specs.Sure.{after, left-le}
 use Rattle.state.specs.declared.State.{State}
 use Rattle.state.specs.State.{allZero, fallen, lspMean, initial}

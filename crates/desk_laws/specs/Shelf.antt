@@ -9,8 +9,9 @@ use lib.ListN.{length}
 use Rattle.state.specs.State.{obeys}
 use Rattle.image.specs.Image as Image
 use Rattle.image.specs.Image.{SIZE}
+use Rattle.slot_users.specs.Users.{SLOTS, free}
 use Rattle.shelf.specs.Shelf as Shelf
-use Rattle.shelf.specs.Shelf.{SLOTS, number, free, lent, judged}
+use Rattle.shelf.specs.Shelf.{number, lent, judged}
 use Rattle.desk_shelf.specs.Records.{records}
 use Rattle.desk_shelf.specs.Calls.{save, savedImage}
 use Rattle.desk_laws.specs.Runs.{Lent, exact, obeys-no-nans}

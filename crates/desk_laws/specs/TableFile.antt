@@ -11,7 +11,7 @@ use lib.ListN.{length, getD}
 use Rattle.sequence.specs.Table.{table-of}
 use Rattle.tables.specs.Tables.{check}
 use Rattle.state.specs.State.{startedBy, started, reset}
-use Rattle.hex.specs.File as File
+use Rattle.table_file.specs.File as File
 use Rattle.image.specs.Bytes.{numberAt}
 use Rattle.image.specs.Parts.{numbersAt, length-numbers, numbers-at}
 use Rattle.image.specs.Image.{SIZE, signed}

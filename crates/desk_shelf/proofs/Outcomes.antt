@@ -15,8 +15,10 @@ use Rattle.image.specs.Image as Image
 use Rattle.image.specs.Image.{SIZE}
 use Rattle.slots.specs.declared.Slot.{Slot}
 use Rattle.slots.specs.Slots.{noSlot}
+use Rattle.slot_users.specs.Users as Users
+use Rattle.slot_users.specs.Users.{SLOTS, Decision, refuse, change, free}
 use Rattle.shelf.specs.Shelf as Shelf
-use Rattle.shelf.specs.Shelf.{SLOTS, Decision, refuse, change, number, slotOf, slotsAfter, imagesAfter, notFetched, free, judged, lent, Done, SaveDone}
+use Rattle.shelf.specs.Shelf.{number, slotOf, slotsAfter, imagesAfter, notFetched, judged, lent, Done, SaveDone}
 use Rattle.shelf.specs.Cases.{judged-not}
 use Rattle.shelf.specs.April.{accepted-hold, accepted-let-go, accepted-save}
 use Rattle.shelf.specs.declared.Fetched.{Fetched}
@@ -98,11 +100,11 @@ module _ (b : List ℕ) where
   module _ (room k : ℕ) where
     pub hold-twelve : (length b ≡ RECORDS → ⊥) → Told (hold b room k) 12 b
     unfolding hold Shelf.hold lent
-    hold-twelve h = refuses (hold b room k) 12 (ap (λ (l : List Slot). Shelf.hold l room k) (no-records b h) ∙ judged-not 0 room refuse (Shelf.holdLent [] k) refl)
+    hold-twelve h = refuses (hold b room k) 12 (ap (λ (l : List Slot). Shelf.hold l room k) (no-records b h) ∙ judged-not 0 room refuse (Users.holdLent [] k) refl)
 
     pub let-go-twelve : (length b ≡ RECORDS → ⊥) → Told (letGo b room k) 12 b
     unfolding letGo Shelf.letGo lent
-    let-go-twelve h = refuses (letGo b room k) 12 (ap (λ (l : List Slot). Shelf.letGo l room k) (no-records b h) ∙ judged-not 0 room refuse (Shelf.letGoLent [] k) refl)
+    let-go-twelve h = refuses (letGo b room k) 12 (ap (λ (l : List Slot). Shelf.letGo l room k) (no-records b h) ∙ judged-not 0 room refuse (Users.letGoLent [] k) refl)
 
     module _ (l after : List Slot) (n : ℕ) (p : l ≡ records b) where
       pub hold-refused : Done (Shelf.hold l room k) l n after → (n ≡ 0 → ⊥) → Told (hold b room k) n b

@@ -6,8 +6,8 @@ use lib.Dec.{eqb}
 use lib.ListN.{length, set}
 use Rattle.image.specs.Image as Image
 use Rattle.image.specs.Image.{SIZE}
+use Rattle.slot_users.specs.Users.{Decision, refuse, change}
 use Rattle.shelf.specs.Shelf as Shelf
-use Rattle.shelf.specs.Shelf.{Decision, refuse, change}
 use Rattle.desk_shelf.specs.Records.{records, bytesOfRecords}
 
 -- ---- of a decision: the records b after it, and what stands in the room for a slot's number

@@ -9,7 +9,7 @@ use lib.ListN.{length, getD}
 use Rattle.sequence.specs.Table.{table}
 use Rattle.image.specs.Bytes.{bytesOf, numberAt}
 use Rattle.slots.specs.declared.Slot.{Slot}
-use Rattle.shelf.specs.Shelf.{SLOTS}
+use Rattle.slot_users.specs.Users.{SLOTS}
 
 -- how many bytes a record takes, and sixteen
 abbrev pub RECORD : ℕ

@@ -11,7 +11,7 @@ use Rattle.sequence.specs.Table.{table, table-of}
 use Rattle.image.specs.Bytes.{Bytes, bytesOf, numberAt, length-bytes, number-behind, number-back, bytes-back}
 use Rattle.slots.specs.declared.Slot.{Slot}
 use Rattle.slots.specs.Slots.{noSlot}
-use Rattle.shelf.specs.Shelf.{SLOTS}
+use Rattle.slot_users.specs.Users.{SLOTS}
 use Rattle.desk_shelf.specs.Records.{RECORDS, recordBytes, bytesOfRecords, recordAt, records}
 
 -- what a program can hold in a Slot

@@ -15,8 +15,10 @@ use Rattle.image.specs.Image as Image
 use Rattle.image.specs.Image.{SIZE}
 use Rattle.slots.specs.declared.Slot.{Slot}
 use Rattle.slots.specs.Slots.{noSlot}
+use Rattle.slot_users.specs.Users as Users
+use Rattle.slot_users.specs.Users.{SLOTS, Decision, refuse, change, ofHeld, users, free}
 use Rattle.shelf.specs.Shelf as Shelf
-use Rattle.shelf.specs.Shelf.{SLOTS, Decision, refuse, change, lent, judged, ofHeld, users, free, slotsAfter}
+use Rattle.shelf.specs.Shelf.{lent, judged, slotsAfter}
 use Rattle.shelf.specs.Cases.{lent-means}
 use Rattle.desk_shelf.specs.Records.{RECORDS, recordAt, records}
 use Rattle.desk_shelf.specs.Calls.{recordsAfter, hold, letGo, save}
@@ -55,7 +57,7 @@ Sound l (change k s) = (length l ≡ SLOTS) × HeldSlot s
 
 module _ (l : List Slot) (room : ℕ) (h : HeldSlots l) where
   pub hold-sound : (j : ℕ) → Sound l (Shelf.hold l room j)
-  unfolding Shelf.hold Shelf.holdLent judged ofHeld Sound
+  unfolding Shelf.hold Users.holdLent judged ofHeld Sound
   hold-sound j = by (lent (length l) room) (ltb j SLOTS) (eqb (users l j) 0) (eqb (users l j) 255) refl refl refl refl
     where
       by : (a b c d : Bool) → lent (length l) room ≡ a → ltb j SLOTS ≡ b → eqb (users l j) 0 ≡ c → eqb (users l j) 255 ≡ d → Sound l (Shelf.hold l room j)
@@ -73,7 +75,7 @@ module _ (l : List Slot) (room : ℕ) (h : HeldSlots l) where
           by-less u m n = omega arith
 
   pub letGo-sound : (j : ℕ) → Sound l (Shelf.letGo l room j)
-  unfolding Shelf.letGo Shelf.letGoLent judged ofHeld Sound
+  unfolding Shelf.letGo Users.letGoLent judged ofHeld Sound
   letGo-sound j = by (lent (length l) room) (ltb j SLOTS) (eqb (users l j) 0) refl refl refl
     where
       by : (a b c : Bool) → lent (length l) room ≡ a → ltb j SLOTS ≡ b → eqb (users l j) 0 ≡ c → Sound l (Shelf.letGo l room j)

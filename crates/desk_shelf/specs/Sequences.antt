@@ -15,8 +15,9 @@ use Rattle.image.specs.Image as Image
 use Rattle.image.specs.Image.{SIZE}
 use Rattle.image.specs.RoundTrips.{state-held}
 use Rattle.slots.specs.declared.Slot.{Slot}
+use Rattle.slot_users.specs.Users.{SLOTS, Decision, refuse, change, users}
 use Rattle.shelf.specs.Shelf as Shelf
-use Rattle.shelf.specs.Shelf.{SLOTS, ROOM, Decision, refuse, change, users, slotsAfter, imagesAfter}
+use Rattle.shelf.specs.Shelf.{ROOM, slotsAfter, imagesAfter}
 use Rattle.shelf.specs.Run as Run
 use Rattle.shelf.specs.April as April
 use Rattle.desk_shelf.specs.Records.{RECORDS, recordBytes, bytesOfRecords, recordAt, records}

@@ -11,7 +11,7 @@ use slots::Slot;
 // How many bytes a record takes, and sixteen.
 const RECORD: usize = 5;
 
-pub const RECORDS: usize = shelf::SLOTS * RECORD;
+pub const RECORDS: usize = slot_users::SLOTS * RECORD;
 
 // An image of another length; records, images or a slot's room of another length.
 const NO_IMAGE: u8 = 11;
@@ -38,7 +38,7 @@ pub fn read_records(records: &[u8]) -> [Slot; 16]
     let none = Slot { users: 0, frame: 0 };
     let mut slots = [none; 16];
     let mut k = 0;
-    while k < shelf::SLOTS {
+    while k < slot_users::SLOTS {
         slots[k] = record_at(records, k);
         k += 1;
     }
@@ -59,7 +59,7 @@ fn write_records(slots: [Slot; 16], records: &mut [u8])
     ensures { λ _. ⌜ now (records .exit) ≡ Records.bytesOfRecords slots ⌝ }
 {
     let mut k = 0;
-    while k < shelf::SLOTS {
+    while k < slot_users::SLOTS {
         put_record(slots[k], records, k);
         k += 1;
     }

@@ -11,8 +11,8 @@ use Rattle.bits.specs.Widths.{within-names, fields-within}
 use Rattle.pitch.specs.Pitch.{InRange}
 use Rattle.pitch.specs.Lags.{sane-integer}
 use Rattle.half.specs.Kept.{lags-kept, lag-kept}
-use Rattle.frame.specs.declared.Subframe.{Subframe}
-use Rattle.frame.specs.Frame as Frame
+use Rattle.observation.specs.declared.Subframe.{Subframe}
+use Rattle.observation.specs.Frame as Frame
 use Rattle.state.specs.declared.State.{State}
 use Rattle.state.specs.State.{initial, missedFrame}
 use Rattle.calls.specs.Celp.{refusal, silent, carried, decoded, next, accepted, answer, decode}

@@ -27,8 +27,8 @@ use Rattle.half.specs.declared.SubframeTrace.{SubframeTrace}
 use Rattle.half.specs.Core as HalfFrame
 use Rattle.half.specs.Figures.{histories, pushed}
 use Rattle.half.specs.Kept.{indexes-kept, gains-kept}
-use Rattle.frame.specs.declared.Subframe.{Subframe}
-use Rattle.frame.specs.Frame as Frame
+use Rattle.observation.specs.declared.Subframe.{Subframe}
+use Rattle.observation.specs.Frame as Frame
 use Rattle.spectral.specs.Kept.{Words16}
 use Rattle.state.specs.declared.State.{State}
 use Rattle.calls.specs.declared.Answer.{Answer}

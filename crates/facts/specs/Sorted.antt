@@ -15,7 +15,7 @@ use Rattle.sequence.specs.Lists.{Same, Rising}
 use Rattle.spectral.specs.TotalCmp.{totalLe}
 use Rattle.spectral.specs.Predicted.{predict-any}
 use Rattle.half.specs.Figures.{left-lsp}
-use Rattle.frame.specs.Frame as Frame
+use Rattle.observation.specs.Frame as Frame
 use Rattle.state.specs.declared.State.{State}
 use Rattle.calls.specs.Celp.{refusal, carried}
 use Rattle.calls.specs.Accepted.{accepted-means}

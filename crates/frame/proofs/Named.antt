@@ -6,8 +6,8 @@ use lib.Ieee.{Float}
 use Rattle.bits.specs.declared.HalfParams.{HalfParams}
 use Rattle.half.specs.declared.Core.{Core}
 use Rattle.half.specs.Kept.{indexes-kept, classes-kept}
-use Rattle.frame.specs.Frame.{lsp, half}
-use Rattle.frame.specs.Named.{Named}
+use Rattle.observation.specs.Frame.{lsp, half}
+use Rattle.observation.specs.Named.{Named}
 
 pub named : (words : List ℤ) (bytes : List ℕ) (core : Core) (residuals : List Float) (p : HalfParams) → Named (half words bytes core residuals p .half)
 unfolding half

@@ -248,7 +248,7 @@ fn main() {
     let mut words = [0i16; 5963];
     let got = pipe::read_file(b"tables.bin", &mut file);
     let n = got.n;
-    let number = hex::check_file(&file[..n], &mut words);
+    let number = table_file::check_file(&file[..n], &mut words);
     if number != 0 {
         say(wide(number), true);
         return;

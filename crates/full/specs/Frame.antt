@@ -8,8 +8,8 @@ use Rattle.bits.specs.declared.FrameParams.{FrameParams}
 use Rattle.spectral.specs.Spectral as Spectral
 use Rattle.half.specs.declared.SubframeTrace.{SubframeTrace}
 use Rattle.full.specs.Half as Core
-use Rattle.frame.specs.declared.Subframe.{Subframe}
-use Rattle.frame.specs.Frame.{residual, lsp, reported}
+use Rattle.observation.specs.declared.Subframe.{Subframe}
+use Rattle.observation.specs.Frame.{residual, lsp, reported}
 
 -- core, spectral history (three residuals, one after the other) and gain history
 pub record Native : Type 0 where

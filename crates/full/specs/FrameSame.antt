@@ -12,7 +12,7 @@ use Rattle.half.specs.Core as HalfFrame
 use Rattle.full.specs.Half.{Decoded160, restricted}
 use Rattle.full.specs.Half as Core
 use Rattle.full.specs.HalfSame.{Answers, full-same}
-use Rattle.frame.specs.Frame as Frame
+use Rattle.observation.specs.Frame as Frame
 use Rattle.full.specs.Frame.{Native, Observation, turn, decode}
 
 -- what our state has of it

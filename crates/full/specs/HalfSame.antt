@@ -21,9 +21,9 @@ use Rattle.pitch.specs.declared.Lag.{Lag}
 use Rattle.pitch.specs.Pitch as Pitch
 use Rattle.pitch.specs.Buffered.{sharpenBuffered, sharpen-buffered}
 use Rattle.pitch.specs.Lags.{absolute-sane, relative-sane}
-use Rattle.codebook.specs.declared.Innovation.{Innovation}
-use Rattle.codebook.specs.Codebook as Codebook
-use Rattle.codebook.specs.Ranges.{length-code}
+use Rattle.code_index.specs.declared.Innovation.{Innovation}
+use Rattle.code_index.specs.Codebook as Codebook
+use Rattle.code_index.specs.Ranges.{length-code}
 use Rattle.excitation.specs.declared.InterpolationGains.{InterpolationGains}
 use Rattle.synth.specs.Synth as Synth
 use Rattle.half.specs.declared.Core.{Core}

@@ -13,7 +13,7 @@ use Rattle.bits.specs.GainIndex.{gain-index-lt}
 use Rattle.pitch.specs.Pitch as Pitch
 use Rattle.pitch.specs.Lags.{absolute-sane, relative-sane}
 use Rattle.tables.specs.SoundWords.{SoundWords}
-use Rattle.codebook.specs.Codebook as Codebook
+use Rattle.code_index.specs.Codebook as Codebook
 use Rattle.half.specs.declared.SubframeParams.{SubframeParams}
 use Rattle.half.specs.Core.{splitParams}
 

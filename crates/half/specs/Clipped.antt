@@ -10,8 +10,8 @@ use Rattle.bits.specs.declared.HalfParams.{HalfParams}
 use Rattle.pitch.specs.declared.Lag.{Lag}
 use Rattle.pitch.specs.Pitch as Pitch
 use Rattle.synth.specs.Synth as Synth
-use Rattle.postfilter.specs.declared.OutputFilter.{OutputFilter}
-use Rattle.postfilter.specs.Postfilter as Postfilter
+use Rattle.output_filter.specs.declared.OutputFilter.{OutputFilter}
+use Rattle.output_filter.specs.Postfilter as Postfilter
 use Rattle.half.specs.declared.Clipped.{Clipped}
 use Rattle.half.specs.declared.Core.{Core}
 use Rattle.half.specs.Core as Spec

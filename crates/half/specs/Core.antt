@@ -18,15 +18,15 @@ use Rattle.lsp.specs.Lsp as Lsp
 use Rattle.reflection.specs.Reflection as Levinson
 use Rattle.pitch.specs.declared.Lag.{Lag}
 use Rattle.pitch.specs.Pitch as Pitch
-use Rattle.codebook.specs.declared.Innovation.{Innovation}
-use Rattle.codebook.specs.Codebook as Codebook
+use Rattle.code_index.specs.declared.Innovation.{Innovation}
+use Rattle.code_index.specs.Codebook as Codebook
 use Rattle.excitation.specs.declared.InterpolationGains.{InterpolationGains}
 use Rattle.excitation.specs.Excitation as Excitation
 use Rattle.gain.specs.declared.Decoded.{Decoded}
 use Rattle.gain.specs.Gain as Gain
 use Rattle.synth.specs.Synth as Synth
-use Rattle.postfilter.specs.declared.OutputFilter.{OutputFilter}
-use Rattle.postfilter.specs.Postfilter as Postfilter
+use Rattle.output_filter.specs.declared.OutputFilter.{OutputFilter}
+use Rattle.output_filter.specs.Postfilter as Postfilter
 use Rattle.half.specs.declared.Clipped.{Clipped}
 use Rattle.half.specs.declared.Core.{Core}
 use Rattle.half.specs.declared.Counts.{Counts}

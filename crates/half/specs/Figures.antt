@@ -14,7 +14,7 @@ use Rattle.bits.specs.Bits.{gainIndex}
 use Rattle.lsp.specs.Lsp.{interpolatePair}
 use Rattle.pitch.specs.declared.Lag.{Lag}
 use Rattle.pitch.specs.Pitch.{decodeAbsolute, decodeRelative}
-use Rattle.codebook.specs.Codebook as Codebook
+use Rattle.code_index.specs.Codebook as Codebook
 use Rattle.gain.specs.Gain as Gain
 use Rattle.half.specs.declared.Core.{Core}
 use Rattle.half.specs.declared.Half.{Half}

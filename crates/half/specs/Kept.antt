@@ -18,8 +18,8 @@ use Rattle.bits.specs.Widths.{InWidths}
 use Rattle.bits.specs.GainIndex.{gain-index-lt}
 use Rattle.pitch.specs.Pitch as Pitch
 use Rattle.pitch.specs.Lags.{absolute-sane, relative-sane, sane-integer}
-use Rattle.codebook.specs.Codebook as Codebook
-use Rattle.codebook.specs.Ranges.{class-at-most}
+use Rattle.code_index.specs.Codebook as Codebook
+use Rattle.code_index.specs.Ranges.{class-at-most}
 use Rattle.gain.specs.Ranges.{Bounded}
 use Rattle.gain.specs.Kept.{decode-bounded}
 use Rattle.half.specs.declared.Core.{Core}

@@ -1,6 +1,6 @@
 // No function: what a half frame is, as definitions (specs/), and here the records that it is handed and that it leaves.
+use output_filter::OutputFilter;
 use pitch::Lag;
-use postfilter::OutputFilter;
 
 // What a half frame carries on: the parts of the state but for the spectrum's.
 pub struct Core {

@@ -15,7 +15,7 @@ use Rattle.floats.specs.Floats.{within}
 use Rattle.tables.specs.Places.{WORDS, BYTES}
 use Rattle.tables.specs.Tables.{broken}
 use Rattle.bits.specs.Bits.{fieldsOf}
-use Rattle.frame.specs.Frame as Frame
+use Rattle.observation.specs.Frame as Frame
 use Rattle.state.specs.declared.State.{State}
 use Rattle.calls.specs.declared.Answer.{Answer}
 use Rattle.state.specs.State.{obeys}

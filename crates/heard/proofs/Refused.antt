@@ -12,7 +12,7 @@ use Rattle.tables.specs.Tables.{firstFault, check}
 use Rattle.state.specs.State.{fault}
 use Rattle.state.specs.Faults.{four-long, rule-of-six}
 use Rattle.hex.specs.Text.{tablesRefusedText}
-use Rattle.hex.specs.File as File
+use Rattle.table_file.specs.File as File
 use Rattle.heard.specs.Recording.{tablesText}
 use Rattle.heard.specs.Start.{Tables, part-bytes}
 

@@ -17,7 +17,7 @@ use Rattle.state.specs.State.{fault, reset, coldStart}
 use Rattle.calls.specs.Celp as Celp
 use Rattle.calls.specs.Run.{Event, heard, missed, step}
 use Rattle.hex.specs.Text.{digit, isFrame, isOnly, payload, frameText, refusedText, tablesRefusedText}
-use Rattle.hex.specs.File as File
+use Rattle.table_file.specs.File as File
 
 -- the call that a line stands for: one that is not 40 hex digits counts as a missed frame
 unfoldable pub event : List ℕ → Event

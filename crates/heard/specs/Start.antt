@@ -11,7 +11,7 @@ use Rattle.state.specs.declared.State.{State}
 use Rattle.state.specs.State.{allZero, coldStart}
 use Rattle.calls.specs.Run.{Event, step}
 use Rattle.hex.specs.Held.{kept}
-use Rattle.hex.specs.File as File
+use Rattle.table_file.specs.File as File
 use Rattle.heard.specs.declared.Recorder.{Recorder}
 use Rattle.heard.specs.declared.Said.{Said}
 use Rattle.heard.specs.declared.Started.{Started}

@@ -6,7 +6,7 @@ ghost use lib.ListN.{length};
 ghost use Rattle.io.specs.Counts.{Counts};
 ghost use Rattle.tables.specs.Places.{WORDS};
 ghost use Rattle.stream.specs.Room.{over};
-ghost use Rattle.hex.specs.File as File;
+ghost use Rattle.table_file.specs.File as File;
 ghost use Rattle.hex.specs.Held as Held;
 ghost use Rattle.heard.specs.Recording as Recording;
 ghost use Rattle.heard.specs.Start as Start;
@@ -66,10 +66,10 @@ fn refuse(number: u8, words: &[i16], file: &[u8], room: &mut [u8]) -> usize
     ensures text { λ _. ⌜ now (room .exit) ≡ over (Recording.tablesText number (now (file .entry))) (now (room .entry)) ⌝ }
 {
     if number == 4 {
-        let told = tables::first_fault(words, &file[11926..]);
-        return hex::put_tables_refused(number, told, room);
+        let told = rules::first_fault(words, &file[11926..]);
+        return table_file::put_tables_refused(number, told, room);
     }
-    hex::put_tables_refused(number, Fault { rule: 0, place: 0 }, room)
+    table_file::put_tables_refused(number, Fault { rule: 0, place: 0 }, room)
 }
 
 // The start from the table file's bytes, of which the first 15,835 are enough: its words are put, and its refusal goes over the beginning of room.
@@ -81,7 +81,7 @@ pub fn begin(file: &[u8], words: &mut [i16], room: &mut [u8]) -> Started
     ensures ready { λ r. ⌜ (r .number ≡ 0 → Start.Tables (now (words .exit)) (now (file .entry))) ⌝ }
     ensures fits { λ r. ⌜ Counts (r .n) (now (room .exit)) ⌝ }
 {
-    let number = hex::check_file(file, words);
+    let number = table_file::check_file(file, words);
     if number != 0 {
         let n = refuse(number, words, file, room);
         return Started {

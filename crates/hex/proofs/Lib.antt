@@ -1,3 +1,1 @@
 mod Digits
-mod Stores
-mod Words

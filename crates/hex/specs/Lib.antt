@@ -1,4 +1,4 @@
 pub mod Text
-pub mod File
 pub mod Held
 pub mod Lengths
+pub mod Stores

@@ -2,3 +2,4 @@ mod Fraction
 mod Naturals
 mod Taps
 mod Filter
+mod Again

@@ -5,3 +5,4 @@ pub mod Kept
 pub mod Reads
 pub mod Buffered
 pub mod Cases
+pub mod Unclipped

@@ -1,14 +1,17 @@
 // Lags in thirds of a sample, the adaptive codebook's prediction, and pitch sharpening.
 ghost use mathlib.Core.Path.{_≡_};
-ghost use Prim.Native.Nat.{_+_, _-_, _*_, _≤_, _<_};
+ghost use Prim.Native.Nat.{ℕ, _+_, _-_, _*_, _≤_, _<_};
 ghost use lib.ListN.{length};
 ghost use lib.IntN.{pos};
+ghost use Rattle.sequence.specs.Count.{count};
 ghost use Rattle.sequence.specs.Rewritten.{rewritten};
+ghost use Rattle.fixed.specs.Fixed as Fixed;
 ghost use Rattle.tables.specs.Places.{WORDS};
 ghost use Rattle.pitch.specs.Pitch as Pitch;
 ghost use Rattle.pitch.specs.Window as Window;
 use fixed::acc;
 use fixed::clips;
+use fixed::ends;
 use fixed::fold;
 use fixed::fold_products;
 use fixed::hi;
@@ -141,22 +144,36 @@ fn interpolated_sample(taps: &[i16], narrow: bool, signal: &[i16], from: usize) 
     fold_products(first, &taps[16..], narrow, &signal[middle..end])
 }
 
-// The 80 samples, by a window of taps, and how many of them saturation changed.
+// At how many of the 80 predicted samples saturation changed the sum: each is made of samples before it, which stand as they were read.
+fn predict_clipped(taps: &[i16], narrow: bool, exc: &[i16], at: usize, delay: usize) -> u8
+    requires { ⌜ (length (now taps) ≡ 24) × (narrow ≡ Window.narrow (now taps)) × (154 ≤ at) × (at + 80 ≤ length (now exc)) × (20 ≤ delay) × (delay ≤ 144) ⌝ }
+    ensures { λ r. ⌜ r ≡ count (λ (n : ℕ). Fixed.clips (Window.predictedSum (now (taps .entry)) delay at n (now (exc .entry)))) 80 ⌝ }
+{
+    let mut clipped = 0u8;
+    for n in 0..80 {
+        let value = interpolated_sample(taps, narrow, exc, at + n - delay - 9);
+        clipped += one(clips(fold(value, 32768)));
+    }
+    clipped
+}
+
+// The 80 samples, by a window of taps, and how many of them saturation changed. Each of those is at an end of 16 bits, so only a block with such a sample is counted.
 fn predict_from(taps: &[i16], narrow: bool, exc: &mut [i16], at: usize, delay: usize) -> u8
     requires { ⌜ (length (now taps) ≡ 24) × (narrow ≡ Window.narrow (now taps)) × (154 ≤ at) × (at + 80 ≤ length (now exc)) × (20 ≤ delay) × (delay ≤ 144) ⌝ }
     ensures samples { λ _. ⌜ now (exc .exit) ≡ rewritten (Window.predicted (now (taps .entry)) delay at) at (now (exc .entry)) 80 ⌝ }
     ensures clipped { λ r. ⌜ r ≡ Window.clipped (now (taps .entry)) delay at (now (exc .entry)) ⌝ }
 {
-    let mut clipped = 0u8;
     for n in 0..80 {
         let place = at + n;
         let value = interpolated_sample(taps, narrow, &exc[..], place - delay - 9);
-        let v = fold(value, 32768);
-        let y = hi(sat(v));
+        let y = hi(sat(fold(value, 32768)));
         exc[place] = y;
-        clipped += one(clips(v));
     }
-    clipped
+    let end = at + 80;
+    if ends(&exc[at..end]) == 0 {
+        return 0;
+    }
+    predict_clipped(taps, narrow, &exc[..], at, delay)
 }
 
 // The adaptive codebook's 80 samples from place at on, and how many of them saturation changed.

@@ -10,9 +10,9 @@ use Rattle.fixed.specs.Products.{abs-mul32x16}
 use Rattle.fixed.specs.Wrap.{acc-fits}
 use Rattle.fixed.specs.Sums.{fold-fits, sum-fits, plain-le}
 use Rattle.plain.specs.Sums.{Short, AllShort, short-mul, shift-fits}
-use Rattle.postfilter.specs.declared.OutputFilter.{OutputFilter}
-use Rattle.postfilter.specs.declared.Taps.{Taps}
-use Rattle.postfilter.specs.Postfilter.{at, inputs, back, sectionSum, rounded, filterSection, scaled}
+use Rattle.output_filter.specs.declared.OutputFilter.{OutputFilter}
+use Rattle.output_filter.specs.declared.Taps.{Taps}
+use Rattle.output_filter.specs.Postfilter.{at, inputs, back, sectionSum, rounded, filterSection, scaled}
 
 -- ---- the same with plain sums
 unfoldable pub plainInputs : Taps → OutputFilter → ℕ → ℤ → ℤ

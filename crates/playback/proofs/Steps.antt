@@ -1,19 +1,19 @@
 -- What the functions' answers come to, one by one.
 use Prim.Native.Nat.{ℕ, suc, _+_, _-_, _<_, _≤_, min}
 use mathlib.Core.Path.{_≡_, refl, sym, ap, _∙_}
-use mathlib.Core.List.{List, [], _∷_, _++_}
+use mathlib.Core.List.{List, [], _∷_}
 use mathlib.Core.Bool.{Bool, true, false}
 use native.Mathlib.Omega.{arith}
 use lib.Dec.{ltb}
 use lib.IntN.{ℤ}
-use lib.ListN.{length, take, drop, length-take, drop-of-length-le, length-append}
-use lib.Seq.{sets, take-nil}
+use lib.ListN.{length, take, drop, length-take, drop-of-length-le}
+use lib.Seq.{take-nil}
 use borrow.Author.Tests.{eq-eqb, ne-eqb, lt-ltb, le-ltb, ltb-true, ltb-false}
 use Rattle.stream.specs.Lines.{pieces, ofPieces, lines}
 use Rattle.stream.specs.Held.{shown-same}
 use Rattle.stream.specs.Machine.{fedAll}
-use Rattle.stream.specs.Room.{over, over-none, sets-append, sets-over}
-use Rattle.stream.specs.Decimal.{decimal, figure, decimal-long, figure-long}
+use Rattle.stream.specs.Room.{over, over-none}
+use Rattle.stream.specs.Decimal.{figure}
 use Rattle.state.specs.declared.State.{State}
 use Rattle.hex.specs.declared.Line.{Line}
 use Rattle.hex.specs.Held.{kept, push, heldLine}
@@ -21,24 +21,26 @@ use Rattle.heard.specs.declared.Said.{Said}
 use Rattle.heard.specs.Recording.{event, text, lineStep, lineText}
 use Rattle.heard.specs.Start.{called}
 use Rattle.slots.specs.declared.Slot.{Slot}
-use Rattle.shelf.specs.declared.Saved.{Saved}
-use Rattle.shelf.specs.Shelf.{SLOTS, number, slotsAfter, SaveDone}
+use Rattle.slot_users.specs.Users.{SLOTS}
+use Rattle.shelf.specs.Shelf.{number, slotsAfter}
 use Rattle.shelf.specs.Shelf as Calls
 use Rattle.shelf.specs.Run.{Shelf, after, hold, letGo}
 use Rattle.forward.specs.Forward.{frames, before}
-use Rattle.forward.specs.Places.{lineEnd, line-at, lines-at, behind-is, event-long, step-held, At}
+use Rattle.forward.specs.Places.{lineEnd, line-at, lines-at, behind-is, event-long, step-held}
 use Rattle.seek.specs.declared.Sought.{Sought}
 use Rattle.seek.specs.Best.{best}
 use Rattle.seek.specs.Seek.{notSought}
 use Rattle.commands.specs.declared.Command.{Command}
 use Rattle.commands.specs.Commands.{command}
-use Rattle.playback.specs.declared.Cue.{Cue}
+use Rattle.replies.specs.declared.Cue.{Cue}
 use Rattle.playback.specs.declared.Player.{Player}
 use Rattle.playback.specs.declared.Played.{Played}
-use Rattle.playback.specs.declared.Obeyed.{Obeyed}
+use Rattle.replies.specs.declared.Obeyed.{Obeyed}
 use Rattle.playback.specs.declared.Turned.{Turned}
-use Rattle.playback.specs.Playback.{refusedWord, savedWord, heldWord, letGoWord, frameWord, markWord, unknownLine, answered, frameMark, sought, found, saveLeft, saveSaid, left, said}
-use Rattle.playback.specs.Turns.{silent, silence, ahead, aheadOf, shelf, seen, Turning, cued, toPlay, atOnce, ends, takes, turn, Put, Quiet, Cues, Obeys, lineAt, Plays, Took, takes-more, takes-line, turn-takes, turn-plays}
+use Rattle.replies.specs.Replies.{heldWord, letGoWord, unknownLine, answered, frameMark, saveLeft, saveSaid}
+use Rattle.playback.specs.Playback.{sought, found, left, said}
+use Rattle.replies.specs.Promised.{silent, silence, ahead, aheadOf, shelf, cued, Quiet, Cues, put-as}
+use Rattle.playback.specs.Turns.{seen, Turning, toPlay, atOnce, ends, takes, turn, Obeys, lineAt, Plays, Took, takes-more, takes-line, turn-takes, turn-plays}
 
 -- ---- what is left to play
 lines-none : lines [] ≡ []
@@ -117,32 +119,6 @@ module _ (words : List ℤ) (bytes recording : List ℕ) (c : Cue) where
         put = t ∙ ap (λ (a : List ℕ). over a room) x;
       }
 
--- ---- texts
-pub answered-yes : (n : ℕ) (text : List ℕ) → n ≡ 0 → answered n text ≡ text
-unfolding answered
-answered-yes n text e = rw (eq-eqb n 0 e)
-
-pub answered-no : (n : ℕ) (text : List ℕ) → (n ≡ 0 → ⊥) → answered n text ≡ figure refusedWord n
-unfolding answered
-answered-no n text z = rw (ne-eqb n 0 z)
-
-pub put-as : {t u room : List ℕ} {n : ℕ} {now : List ℕ} → t ≡ u → Put u room n now → Put t room n now
-put-as e p = rw e p
-
-pub put-line : (name : List ℕ) (v : ℕ) (room : List ℕ) {n : ℕ} {now : List ℕ} → length name ≤ 8 → 64 ≤ length room → n ≡ 0 + length (figure name v) → now ≡ sets room 0 (figure name v) → Put (figure name v) room n now
-put-line name v room h r e f = let l = figure-long name v in record { long = omega arith; fits = omega arith; put = f ∙ sets-over (figure name v) room (omega arith) }
-
--- three parts, one behind the other
-pub put-mark : (k mark : ℕ) (room one two : List ℕ) (a b n : ℕ) {now : List ℕ} → 64 ≤ length room → a ≡ 0 + 6 → one ≡ sets room 0 frameWord → b ≡ a + length (decimal k) → two ≡ sets one a (decimal k) → n ≡ b + length (figure markWord mark) → now ≡ sets two b (figure markWord mark) → Put (frameMark k mark) room n now
-unfolding frameMark
-put-mark k mark room one two a b n {now} r p e q f s g =
-    let x = length-append (decimal k) (figure markWord mark) in
-    let y = length-append frameWord (decimal k ++ figure markWord mark) in
-    let d = decimal-long k in
-    let m = figure-long markWord mark in
-    let t : sets two b (figure markWord mark) ≡ sets room 0 (frameMark k mark) = rw (q, f, e, p) (sets-append (decimal k) (figure markWord mark) (sets room 0 frameWord) 6 ∙ sets-append frameWord (decimal k ++ figure markWord mark) room 0) in
-    record { long = omega arith; fits = omega arith; put = g ∙ t ∙ sets-over (frameMark k mark) room (omega arith) }
-
 -- ---- a save
 module _ (words : List ℤ) (bytes recording : List ℕ) (h : Shelf) (k : ℕ) where
   pub found-save : best (h .slots) k < SLOTS → (s : Sought) → s ≡ sought words bytes recording h k → s ≡ found words bytes recording h k
@@ -156,18 +132,6 @@ module _ (words : List ℤ) (bytes recording : List ℕ) (h : Shelf) (k : ℕ) w
   pub found-none : SLOTS ≤ best (h .slots) k → false ≡ ltb k (length (frames recording)) → notSought 15 ≡ found words bytes recording h k
   unfolding found
   found-none e f = rw (le-ltb (best (h .slots) k) SLOTS e, ← f)
-
-module _ (s : Sought) (h : Shelf) (k : ℕ) (room now : List ℕ) (cue : Cue) (n : ℕ) (quiet : cue ≡ silence) where
-  pub not-kept : (name : List ℕ) (v : ℕ) → (s .number ≡ 0 → ⊥) → Put (answered (s .number) (figure name v)) room n now → Quiet (saveLeft h k s .slots) (saveSaid h k s) room (record { slots = h .slots; cue = cue; n = n }) now × (h .images ≡ saveLeft h k s .images)
-  unfolding saveLeft saveSaid
-  not-kept name v z p =
-      rw (ne-eqb (s .number) 0 z) (record { slots = refl; silent = quiet; put = put-as (answered-no (s .number) _ z ∙ sym (answered-no (s .number) (figure name v) z)) p }, refl)
-
-  pub is-kept : (a : Saved) (l : List Slot) (m : List ℕ) → s .number ≡ 0 → SaveDone (h .slots) (h .images) (s .state) k a l m → Put (answered (a .number) (figure savedWord (a .slot))) room n now → Quiet (saveLeft h k s .slots) (saveSaid h k s) room (record { slots = l; cue = cue; n = n }) now × (m ≡ saveLeft h k s .images)
-  unfolding saveLeft saveSaid after
-  is-kept a l m z d p =
-      let e = d .answer in
-      rw (eq-eqb (s .number) 0 z) (record { slots = d .slots; silent = quiet; put = put-as (answered-yes (s .number) _ z ∙ ap (λ (x : Saved). answered (x .number) (figure savedWord (x .slot))) (sym e)) p }, d .images)
 
 -- ---- any command
 module _ (words : List ℤ) (bytes recording : List ℕ) (h : Shelf) (c : Command) (room : List ℕ) (r : Obeyed) (images now : List ℕ) where
@@ -216,15 +180,6 @@ module _ (words : List ℤ) (bytes recording : List ℕ) (h : Shelf) (c : Comman
         pub obeys-none : (c .kind ≡ 4 → ⊥) → (c .kind ≡ 5 → ⊥) → Quiet (h .slots) unknownLine room r now → Obeys words bytes recording h c room r images now
         unfolding said
         obeys-none x z q = by-quiet z q as-was (rw (ne-eqb (c .kind) 1 not-save, ne-eqb (c .kind) 2 not-hold, ne-eqb (c .kind) 3 not-let-go, ne-eqb (c .kind) 4 x, ne-eqb (c .kind) 5 z))
-
--- what `play` leaves to play
-pub cues-none : (recording : List ℕ) (s : Sought) (k n : ℕ) (cue : Cue) → (s .number ≡ 0 → ⊥) → cue ≡ silence → aheadOf recording cue ≡ cued recording s k n
-unfolding cued ahead
-cues-none recording s k n cue z e = rw (ne-eqb (s .number) 0 z, e)
-
-pub cues-some : (recording : List ℕ) (s : Sought) (k n a : ℕ) → s .number ≡ 0 → At recording a k → aheadOf recording (record { state = s .state; place = a; left = n }) ≡ cued recording s k n
-unfolding cued ahead
-cues-some recording s k n a z at = rw (eq-eqb (s .number) 0 z, at .left)
 
 -- ---- turns
 module _ (words : List ℤ) (bytes recording : List ℕ) where

@@ -1,7 +1,7 @@
 -- What the player writes: all of it follows from the bytes of the table file, of the recording and of its input.
 use Prim.Native.Nat.{ℕ, zero, suc}
 use mathlib.Core.Path.{_≡_, refl, ap}
-use mathlib.Core.List.{List, [], _∷_, _++_}
+use mathlib.Core.List.{List}
 use mathlib.Core.Bool.{Bool, true, false, cond}
 use native.Mathlib.Omega.{arith}
 use lib.Dec.{eqb, ltb}
@@ -11,62 +11,27 @@ use lib.Seq.{take-all}
 use borrow.Author.Tests.{ltb-true, ltb-false, ne-eqb}
 use Rattle.stream.specs.Lines.{lines}
 use Rattle.stream.specs.Told.{texts}
-use Rattle.stream.specs.Decimal.{decimal, figure}
+use Rattle.stream.specs.Decimal.{figure}
 use Rattle.state.specs.declared.State.{State}
 use Rattle.state.specs.State.{fault}
-use Rattle.hex.specs.File as File
+use Rattle.table_file.specs.File as File
 use Rattle.heard.specs.Recording.{lineStep, lineText, tablesText}
-use Rattle.shelf.specs.Shelf.{SLOTS, number, slotOf}
-use Rattle.shelf.specs.Run.{Shelf, zeros, after, save, hold, letGo, saving, holding, lettingGo}
+use Rattle.slot_users.specs.Users.{SLOTS}
+use Rattle.shelf.specs.Shelf.{number}
+use Rattle.shelf.specs.Run.{Shelf, zeros, after, hold, letGo, holding, lettingGo}
 use Rattle.forward.specs.Forward.{frames, before}
 use Rattle.seek.specs.declared.Sought.{Sought}
 use Rattle.seek.specs.Best.{best}
 use Rattle.seek.specs.Seek.{notSought, seek}
 use Rattle.commands.specs.declared.Command.{Command}
 use Rattle.commands.specs.Commands.{unknown, command}
+use Rattle.replies.specs.Replies.{heldWord, letGoWord, unknownLine, answered, frameMark, saveLeft, saveSaid}
 
 -- what a line says; one of more than 40 bytes says nothing that is known
 unfoldable pub says : List ℕ → Command
 says line = cond (ltb 40 (length line)) unknown (command line)
 
--- ---- the words: `refused `, `saved `, `held `, `let go `, `frame `, ` mark `, `unknown`
-abbrev pub refusedWord : List ℕ
-refusedWord = 114 ∷ 101 ∷ 102 ∷ 117 ∷ 115 ∷ 101 ∷ 100 ∷ 32 ∷ []
-
-abbrev pub savedWord : List ℕ
-savedWord = 115 ∷ 97 ∷ 118 ∷ 101 ∷ 100 ∷ 32 ∷ []
-
-abbrev pub heldWord : List ℕ
-heldWord = 104 ∷ 101 ∷ 108 ∷ 100 ∷ 32 ∷ []
-
-abbrev pub letGoWord : List ℕ
-letGoWord = 108 ∷ 101 ∷ 116 ∷ 32 ∷ 103 ∷ 111 ∷ 32 ∷ []
-
-abbrev pub frameWord : List ℕ
-frameWord = 102 ∷ 114 ∷ 97 ∷ 109 ∷ 101 ∷ 32 ∷ []
-
-abbrev pub markWord : List ℕ
-markWord = 32 ∷ 109 ∷ 97 ∷ 114 ∷ 107 ∷ 32 ∷ []
-
-abbrev pub unknownLine : List ℕ
-unknownLine = 117 ∷ 110 ∷ 107 ∷ 110 ∷ 111 ∷ 119 ∷ 110 ∷ 10 ∷ []
-
--- `refused N` for a refusal's number, or what an accepted command is answered
-unfoldable pub answered : ℕ → List ℕ → List ℕ
-answered n text = cond (eqb n 0) text (figure refusedWord n)
-
--- `frame K mark M`
-unfoldable pub frameMark : ℕ → ℕ → List ℕ
-frameMark k mark = frameWord ++ (decimal k ++ figure markWord mark)
-
 -- ---- a command on the shelf h, of a recording
--- what `save K` leaves and is answered, where the state before frame K was looked for and s was found
-unfoldable pub saveLeft : Shelf → ℕ → Sought → Shelf
-saveLeft h k s = cond (eqb (s .number) 0) (after h (save (s .state) k)) h
-
-unfoldable pub saveSaid : Shelf → ℕ → Sought → List ℕ
-saveSaid h k s = answered (s .number) (answered (number (saving h (s .state) k)) (figure savedWord (slotOf (saving h (s .state) k))))
-
 module _ (words : List ℤ) (bytes recording : List ℕ) where
   -- the state before frame k: what a seek finds and, for a save where none is held at or below k, that of playing from the start
   abbrev pub sought : Shelf → ℕ → Sought

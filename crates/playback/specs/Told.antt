@@ -18,7 +18,7 @@ use Rattle.stream.specs.Reads.{Read, bytes, inputOf}
 use Rattle.stream.specs.Told.{texts}
 use Rattle.hex.specs.declared.Line.{Line}
 use Rattle.hex.specs.Held.{kept, push, heldLine}
-use Rattle.hex.specs.File as File
+use Rattle.table_file.specs.File as File
 use Rattle.state.specs.declared.State.{State}
 use Rattle.heard.specs.Recording.{lineStep, lineText, tablesText}
 use Rattle.heard.specs.Start as Start
@@ -28,8 +28,10 @@ use Rattle.forward.specs.Forward.{frames}
 use Rattle.forward.specs.Places.{lineEnd, end-nil, end-newline, end-other, kept-more}
 use Rattle.commands.specs.declared.Command.{Command}
 use Rattle.commands.specs.Commands.{command, argument, starts, unknown}
-use Rattle.playback.specs.Playback.{says, answered, sought, played, left, said, lineLeft, lineSaid, transcript, output, program}
-use Rattle.playback.specs.Turns.{Ahead, silent, ahead, Stand, start, seen, Turning, cued, toPlay, atOnce, ends, still, turn, takes-told, takes-open, takes-more, takes-line, turn-takes, turn-plays}
+use Rattle.replies.specs.Replies.{answered}
+use Rattle.replies.specs.Promised.{Ahead, silent, ahead, cued}
+use Rattle.playback.specs.Playback.{says, sought, played, left, said, lineLeft, lineSaid, transcript, output, program}
+use Rattle.playback.specs.Turns.{Stand, start, seen, Turning, toPlay, atOnce, ends, still, turn, takes-told, takes-open, takes-more, takes-line, turn-takes, turn-plays}
 
 -- ---- what is unread: of the last read, and the reads that are to come
 pub record Unread : Type 0 where

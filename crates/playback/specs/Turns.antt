@@ -7,48 +7,26 @@ use lib.Dec.{eqb}
 use borrow.Author.Tests.{eq-eqb, ne-eqb}
 use lib.IntN.{ℤ}
 use lib.ListN.{length, take, drop, replicate}
-use Rattle.stream.specs.Lines.{lines}
 use Rattle.stream.specs.Machine.{fedAll}
 use Rattle.stream.specs.Room.{over}
-use Rattle.state.specs.declared.State.{State}
-use Rattle.state.specs.State.{allZero}
 use Rattle.hex.specs.declared.Line.{Line}
 use Rattle.hex.specs.Held.{kept, push, heldLine}
-use Rattle.hex.specs.File as File
+use Rattle.table_file.specs.File as File
 use Rattle.heard.specs.Recording.{lineStep, lineText}
-use Rattle.slots.specs.declared.Slot.{Slot}
 use Rattle.slots.specs.Slots.{noSlot}
-use Rattle.shelf.specs.Shelf.{SLOTS}
+use Rattle.slot_users.specs.Users.{SLOTS}
 use Rattle.shelf.specs.Run.{Shelf}
-use Rattle.forward.specs.Forward.{frames}
 use Rattle.forward.specs.Places.{lineEnd}
-use Rattle.seek.specs.declared.Sought.{Sought}
 use Rattle.commands.specs.declared.Command.{Command}
 use Rattle.commands.specs.Commands.{command}
-use Rattle.playback.specs.declared.Cue.{Cue}
+use Rattle.replies.specs.declared.Cue.{Cue}
 use Rattle.playback.specs.declared.Player.{Player}
 use Rattle.playback.specs.declared.Played.{Played}
-use Rattle.playback.specs.declared.Obeyed.{Obeyed}
+use Rattle.replies.specs.declared.Obeyed.{Obeyed}
 use Rattle.playback.specs.declared.Turned.{Turned}
-use Rattle.playback.specs.Playback.{answered, sought, left, said}
-
--- ---- what is to be played: a state, and the lines of the frames
-pub record Ahead : Type 0 where
-  pub state : State
-  pub frames : List (List ℕ)
-
-abbrev pub silent : Ahead
-silent = record { state = allZero; frames = [] }
-
-abbrev pub silence : Cue
-silence = record { state = allZero; place = 0; left = 0 }
-
--- those that a place in the recording and a number of frames tell
-unfoldable pub ahead : List ℕ → Cue → List (List ℕ)
-ahead recording c = take (c .left) (lines (drop (c .place) recording))
-
-abbrev pub aheadOf : List ℕ → Cue → Ahead
-aheadOf recording c = record { state = c .state; frames = ahead recording c }
+use Rattle.replies.specs.Replies.{answered}
+use Rattle.replies.specs.Promised.{Ahead, silent, silence, ahead, aheadOf, shelf, cued, Put}
+use Rattle.playback.specs.Playback.{sought, left, said}
 
 -- ---- where the player stands
 pub record Stand : Type 0 where
@@ -56,9 +34,6 @@ pub record Stand : Type 0 where
   pub line : Line
   pub ahead : Ahead
   pub told : Bool
-
-abbrev pub shelf : List Slot → List ℕ → Shelf
-shelf slots images = record { slots = slots; images = images }
 
 abbrev pub start : Player
 start = record { slots = replicate SLOTS noSlot; line = kept []; cue = silence; told = false }
@@ -75,10 +50,6 @@ pub record Turning : Type 0 where
   pub stand : Stand
   pub used : ℕ
   pub text : List ℕ
-
--- what `play` leaves to play, where s was found
-unfoldable pub cued : List ℕ → Sought → ℕ → ℕ → Ahead
-cued recording s k n = cond (eqb (s .number) 0) (record { state = s .state; frames = take n (drop k (frames recording)) }) silent
 
 module _ (words : List ℤ) (bytes recording : List ℕ) where
   -- ---- a command: what it leaves to play, and the text that it is answered at once
@@ -117,25 +88,7 @@ module _ (words : List ℤ) (bytes recording : List ℕ) where
   unfoldable pub turn : Stand → List ℕ → Turning
   turn s chunk = turnBy (s .ahead .frames) s chunk
 
--- ---- what the functions promise: a text over the beginning of the room, of 64 bytes at most
-pub record Put (text room : List ℕ) (n : ℕ) (now : List ℕ) : Type 0 where
-  pub long : n ≡ length text
-  pub fits : n ≤ 64
-  pub put : now ≡ over text room
-
--- a command that leaves nothing to play: the records, and its text
-pub record Quiet (l : List Slot) (text room : List ℕ) (r : Obeyed) (now : List ℕ) : Type 0 where
-  pub slots : r .slots ≡ l
-  pub silent : r .cue ≡ silence
-  pub put : Put text room (r .n) now
-
--- one that may: `play`
-pub record Cues (l : List Slot) (recording : List ℕ) (a : Ahead) (text room : List ℕ) (r : Obeyed) (now : List ℕ) : Type 0 where
-  pub slots : r .slots ≡ l
-  pub cue : aheadOf recording (r .cue) ≡ a
-  pub put : Put text room (r .n) now
-
--- any command, on the shelf h
+-- ---- what the functions promise: any command, on the shelf h
 pub record Obeys (words : List ℤ) (bytes recording : List ℕ) (h : Shelf) (c : Command) (room : List ℕ) (r : Obeyed) (images now : List ℕ) : Type 0 where
   pub shelf : shelf (r .slots) images ≡ left words bytes recording h c
   pub cue : aheadOf recording (r .cue) ≡ toPlay words bytes recording h c

@@ -6,16 +6,18 @@ use lib.IntN.{ℤ}
 use Rattle.stream.specs.Lines.{pieces, ofPieces, lines}
 use Rattle.stream.specs.Told.{texts}
 use Rattle.stream.specs.Decimal.{decimalIn, decimal, figure}
-use Rattle.hex.specs.File as File
+use Rattle.table_file.specs.File as File
 use Rattle.hex.specs.Text.{digit, tablesRefusedText}
 use Rattle.state.specs.State.{fault}
 use Rattle.heard.specs.Recording.{tablesText}
+use Rattle.slot_users.specs.Users as Users
 use Rattle.shelf.specs.Shelf as Shelf
 use Rattle.shelf.specs.Run as Run
 use Rattle.seek.specs.Best.{fits, better, bestOf, best}
 use Rattle.seek.specs.Seek.{seekLent, seek}
 use Rattle.commands.specs.Commands.{more, numberFrom, number, starts, argument, command}
-use Rattle.playback.specs.Playback.{says, answered, said, lineSaid, transcript, output, program}
+use Rattle.replies.specs.Replies.{answered}
+use Rattle.playback.specs.Playback.{says, said, lineSaid, transcript, output, program}
 
 module _ (words : List ℤ) (bytes recording : List ℕ) where
   -- `fetch 0` is no command
@@ -25,7 +27,7 @@ module _ (words : List ℤ) (bytes recording : List ℕ) where
 
   -- there is no slot 16: `hold 16` is `refused 13`
   no-slot : lineSaid words bytes recording Run.zeros (104 ∷ 111 ∷ 108 ∷ 100 ∷ 32 ∷ 49 ∷ 54 ∷ []) ≡ 114 ∷ 101 ∷ 102 ∷ 117 ∷ 115 ∷ 101 ∷ 100 ∷ 32 ∷ 49 ∷ 51 ∷ 10 ∷ []
-  unfolding lineSaid says said command argument starts number numberFrom more answered figure decimal decimalIn Run.zeros Shelf.hold Shelf.judged Shelf.lent Shelf.holdLent Shelf.ofHeld Shelf.number
+  unfolding lineSaid says said command argument starts number numberFrom more answered figure decimal decimalIn Run.zeros Shelf.hold Shelf.judged Shelf.lent Users.holdLent Users.ofHeld Shelf.number
   no-slot = refl
 
   -- with nothing saved `seek 0` is `refused 15`, on a last line without its newline too

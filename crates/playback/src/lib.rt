@@ -1,33 +1,25 @@
 // Playing a recording by commands, turn by turn: each turn writes one frame's line, or takes in one command's line and writes what it is answered.
 ghost use mathlib.Core.Path.{_≡_};
-ghost use mathlib.Core.List.{[]};
 ghost use Prim.Native.Nat.{_≤_, _<_};
 ghost use lib.Dec.{ltb};
 ghost use lib.ListN.{length};
 ghost use Rattle.io.specs.Counts.{Counts};
-ghost use Rattle.stream.specs.Decimal.{figure};
 ghost use Rattle.stream.specs.Machine.{fedAll};
-ghost use Rattle.hex.specs.File as File;
+ghost use Rattle.table_file.specs.File as File;
 ghost use Rattle.hex.specs.Held as Held;
 ghost use Rattle.heard.specs.Start as Start;
-ghost use Rattle.shelf.specs.Shelf as Shelf;
-ghost use Rattle.shelf.specs.Shelf.{number, slotsAfter};
+ghost use Rattle.replies.specs.Replies as Replies;
+ghost use Rattle.replies.specs.Promised as Promised;
 ghost use Rattle.playback.specs.Playback as Playback;
 ghost use Rattle.playback.specs.Turns as Turns;
 use commands::Command;
 use hex::Line;
+use replies::Cue;
+use replies::Obeyed;
 use seek::Sought;
-use shelf::SLOTS;
+use slot_users::SLOTS;
 use slots::Records;
 use slots::Slot;
-use state::State;
-
-// What is left to play: the state before the next frame, the place of its line in the recording, and how many frames are asked for.
-pub struct Cue {
-    pub state: State,
-    pub place: usize,
-    pub left: u32,
-}
 
 // Where the player stands: the records of the shelf, the line that is coming in, what is left to play, and whether all is told.
 pub struct Player {
@@ -44,28 +36,10 @@ pub struct Turned {
     pub n: usize,
 }
 
-// What a command leaves: the records and what is to be played, and how long its text is.
-struct Obeyed {
-    slots: [Slot; 16],
-    cue: Cue,
-    n: usize,
-}
-
 // What a frame leaves, and how long its text is.
 struct Played {
     cue: Cue,
     n: usize,
-}
-
-// Nothing to play.
-fn silence() -> Cue
-    ensures { λ r. ⌜ r ≡ Turns.silence ⌝ }
-{
-    Cue {
-        state: state::all_zero(),
-        place: 0,
-        left: 0,
-    }
 }
 
 // Before the first turn.
@@ -76,14 +50,14 @@ pub fn start() -> Player
     Player {
         slots: [none; 16],
         line: hex::empty(),
-        cue: silence(),
+        cue: replies::silence(),
         told: false,
     }
 }
 
 // Whether a frame is to be played: then the turn asks no input.
 pub fn playing(recording: &[u8], cue: Cue) -> bool
-    ensures { λ r. ⌜ r ≡ ltb 0 (length (Turns.ahead (now (recording .entry)) cue)) ⌝ }
+    ensures { λ r. ⌜ r ≡ ltb 0 (length (Promised.ahead (now (recording .entry)) cue)) ⌝ }
 {
     if cue.left == 0 {
         return false;
@@ -111,27 +85,6 @@ fn frame(words: &[i16], bytes: &[u8], cue: Cue, recording: &[u8], room: &mut [u8
     }
 }
 
-// `refused N`, or where nothing is refused a line of a name and a number.
-fn put_answer(number: u8, name: &[u8], value: u32, room: &mut [u8]) -> usize
-    requires { ⌜ length (now name) ≤ 8 ⌝ ∗ ⌜ 64 ≤ length (now room) ⌝ }
-    ensures { λ r. ⌜ Turns.Put (Playback.answered number (figure (now (name .entry)) value)) (now (room .entry)) r (now (room .exit)) ⌝ }
-{
-    if number != 0 {
-        return stream::put_figure(b"refused ", number as u64, 0, room);
-    }
-    stream::put_figure(name, value as u64, 0, room)
-}
-
-// `frame K mark M`
-fn put_frame_mark(k: u32, mark: u8, room: &mut [u8]) -> usize
-    requires { ⌜ 64 ≤ length (now room) ⌝ }
-    ensures { λ r. ⌜ Turns.Put (Playback.frameMark k mark) (now (room .entry)) r (now (room .exit)) ⌝ }
-{
-    let a = stream::put_at(b"frame ", 0, room);
-    let b = stream::put_decimal(k as u64, a, room);
-    stream::put_figure(b" mark ", mark as u64, b, room)
-}
-
 // The state that is to be saved before frame k: from the best save, or where none is held at or below it from the recording's start.
 fn found(
     words: &[i16],
@@ -141,7 +94,7 @@ fn found(
     recording: &[u8],
     k: u32,
 ) -> Sought
-    ensures { λ r. ⌜ r ≡ Playback.found (now (words .entry)) (now (bytes .entry)) (now (recording .entry)) (Turns.shelf slots (now (images .entry))) k ⌝ }
+    ensures { λ r. ⌜ r ≡ Playback.found (now (words .entry)) (now (bytes .entry)) (now (recording .entry)) (Promised.shelf slots (now (images .entry))) k ⌝ }
 {
     let r = Records {
         count: SLOTS,
@@ -162,31 +115,6 @@ fn found(
     }
 }
 
-// A state is saved, or the refusal of what was looked for is told.
-fn keep(s: Sought, slots: [Slot; 16], images: &mut [u8], k: u32, room: &mut [u8]) -> Obeyed
-    requires { ⌜ 64 ≤ length (now room) ⌝ }
-    ensures { λ r. ⌜ Turns.Quiet (Playback.saveLeft (Turns.shelf slots (now (images .entry))) k s .slots) (Playback.saveSaid (Turns.shelf slots (now (images .entry))) k s) (now (room .entry)) r (now (room .exit)) ⌝ }
-    ensures { λ _. ⌜ now (images .exit) ≡ Playback.saveLeft (Turns.shelf slots (now (images .entry))) k s .images ⌝ }
-{
-    let number = s.number;
-    if number != 0 {
-        return Obeyed {
-            slots,
-            cue: silence(),
-            n: put_answer(number, b"saved ", 0, room),
-        };
-    }
-    let state = s.state;
-    let a = shelf::save_by_value(slots, images, state, k);
-    let answer = a.answer;
-    let after = a.slots;
-    Obeyed {
-        slots: after,
-        cue: silence(),
-        n: put_answer(answer.number, b"saved ", answer.slot, room),
-    }
-}
-
 // `save K`
 fn save(
     words: &[i16],
@@ -198,107 +126,11 @@ fn save(
     room: &mut [u8],
 ) -> Obeyed
     requires { ⌜ 64 ≤ length (now room) ⌝ }
-    ensures { λ r. ⌜ Turns.Quiet (Playback.saveLeft (Turns.shelf slots (now (images .entry))) k (Playback.found (now (words .entry)) (now (bytes .entry)) (now (recording .entry)) (Turns.shelf slots (now (images .entry))) k) .slots) (Playback.saveSaid (Turns.shelf slots (now (images .entry))) k (Playback.found (now (words .entry)) (now (bytes .entry)) (now (recording .entry)) (Turns.shelf slots (now (images .entry))) k)) (now (room .entry)) r (now (room .exit)) ⌝ }
-    ensures { λ _. ⌜ now (images .exit) ≡ Playback.saveLeft (Turns.shelf slots (now (images .entry))) k (Playback.found (now (words .entry)) (now (bytes .entry)) (now (recording .entry)) (Turns.shelf slots (now (images .entry))) k) .images ⌝ }
+    ensures { λ r. ⌜ Promised.Quiet (Replies.saveLeft (Promised.shelf slots (now (images .entry))) k (Playback.found (now (words .entry)) (now (bytes .entry)) (now (recording .entry)) (Promised.shelf slots (now (images .entry))) k) .slots) (Replies.saveSaid (Promised.shelf slots (now (images .entry))) k (Playback.found (now (words .entry)) (now (bytes .entry)) (now (recording .entry)) (Promised.shelf slots (now (images .entry))) k)) (now (room .entry)) r (now (room .exit)) ⌝ }
+    ensures { λ _. ⌜ now (images .exit) ≡ Replies.saveLeft (Promised.shelf slots (now (images .entry))) k (Playback.found (now (words .entry)) (now (bytes .entry)) (now (recording .entry)) (Promised.shelf slots (now (images .entry))) k) .images ⌝ }
 {
     let s = found(words, bytes, slots, images, recording, k);
-    keep(s, slots, images, k, room)
-}
-
-// `hold S`
-fn hold(slots: [Slot; 16], images: &[u8], k: u32, room: &mut [u8]) -> Obeyed
-    requires { ⌜ 64 ≤ length (now room) ⌝ }
-    ensures { λ r. ⌜ Turns.Quiet (slotsAfter (Shelf.hold slots (length (now (images .entry))) k) slots) (Playback.answered (number (Shelf.hold slots (length (now (images .entry))) k)) (figure Playback.heldWord k)) (now (room .entry)) r (now (room .exit)) ⌝ }
-{
-    let a = shelf::hold_by_value(slots, images, k);
-    let number = a.number;
-    let after = a.slots;
-    Obeyed {
-        slots: after,
-        cue: silence(),
-        n: put_answer(number, b"held ", k, room),
-    }
-}
-
-// `let go S`
-fn let_go(slots: [Slot; 16], images: &[u8], k: u32, room: &mut [u8]) -> Obeyed
-    requires { ⌜ 64 ≤ length (now room) ⌝ }
-    ensures { λ r. ⌜ Turns.Quiet (slotsAfter (Shelf.letGo slots (length (now (images .entry))) k) slots) (Playback.answered (number (Shelf.letGo slots (length (now (images .entry))) k)) (figure Playback.letGoWord k)) (now (room .entry)) r (now (room .exit)) ⌝ }
-{
-    let a = shelf::let_go_by_value(slots, images, k);
-    let number = a.number;
-    let after = a.slots;
-    Obeyed {
-        slots: after,
-        cue: silence(),
-        n: put_answer(number, b"let go ", k, room),
-    }
-}
-
-// `seek K`, of what was found
-fn tell(s: Sought, slots: [Slot; 16], k: u32, room: &mut [u8]) -> Obeyed
-    requires { ⌜ 64 ≤ length (now room) ⌝ }
-    ensures { λ r. ⌜ Turns.Quiet slots (Playback.answered (s .number) (Playback.frameMark k (s .state .mark))) (now (room .entry)) r (now (room .exit)) ⌝ }
-{
-    let number = s.number;
-    if number != 0 {
-        return Obeyed {
-            slots,
-            cue: silence(),
-            n: put_answer(number, b"frame ", 0, room),
-        };
-    }
-    let state = s.state;
-    Obeyed {
-        slots,
-        cue: silence(),
-        n: put_frame_mark(k, state.mark, room),
-    }
-}
-
-// `play K N`, of what was found: the frames are left to play.
-fn begin_play(
-    s: Sought,
-    slots: [Slot; 16],
-    recording: &[u8],
-    k: u32,
-    n: u32,
-    room: &mut [u8],
-) -> Obeyed
-    requires { ⌜ 64 ≤ length (now room) ⌝ }
-    ensures { λ r. ⌜ Turns.Cues slots (now (recording .entry)) (Turns.cued (now (recording .entry)) s k n) (Playback.answered (s .number) []) (now (room .entry)) r (now (room .exit)) ⌝ }
-{
-    let number = s.number;
-    if number != 0 {
-        return Obeyed {
-            slots,
-            cue: silence(),
-            n: put_answer(number, b"frame ", 0, room),
-        };
-    }
-    let state = s.state;
-    Obeyed {
-        slots,
-        cue: Cue {
-            state,
-            place: forward::place_of(recording, k),
-            left: n,
-        },
-        n: 0,
-    }
-}
-
-// A command that is none.
-fn wonder(slots: [Slot; 16], room: &mut [u8]) -> Obeyed
-    requires { ⌜ 64 ≤ length (now room) ⌝ }
-    ensures { λ r. ⌜ Turns.Quiet slots Playback.unknownLine (now (room .entry)) r (now (room .exit)) ⌝ }
-{
-    stream::put(b"unknown\n", room);
-    Obeyed {
-        slots,
-        cue: silence(),
-        n: 8,
-    }
+    replies::keep(s, slots, images, k, room)
 }
 
 // A command: its text goes over the beginning of room, but for the frames that it leaves to play.
@@ -312,26 +144,26 @@ fn obey(
     room: &mut [u8],
 ) -> Obeyed
     requires { ⌜ 64 ≤ length (now room) ⌝ }
-    ensures { λ r. ⌜ Turns.Obeys (now (words .entry)) (now (bytes .entry)) (now (recording .entry)) (Turns.shelf slots (now (images .entry))) c (now (room .entry)) r (now (images .exit)) (now (room .exit)) ⌝ }
+    ensures { λ r. ⌜ Turns.Obeys (now (words .entry)) (now (bytes .entry)) (now (recording .entry)) (Promised.shelf slots (now (images .entry))) c (now (room .entry)) r (now (images .exit)) (now (room .exit)) ⌝ }
 {
     if c.kind == commands::SAVE {
         return save(words, bytes, slots, images, recording, c.k, room);
     }
     if c.kind == commands::HOLD {
-        return hold(slots, images, c.k, room);
+        return replies::hold(slots, images, c.k, room);
     }
     if c.kind == commands::LET_GO {
-        return let_go(slots, images, c.k, room);
+        return replies::let_go(slots, images, c.k, room);
     }
     if c.kind == commands::SEEK {
         let s = seek::seek_by_value(words, bytes, slots, images, recording, c.k);
-        return tell(s, slots, c.k, room);
+        return replies::tell(s, slots, c.k, room);
     }
     if c.kind == commands::PLAY {
         let s = seek::seek_by_value(words, bytes, slots, images, recording, c.k);
-        return begin_play(s, slots, recording, c.k, c.n, room);
+        return replies::begin_play(s, slots, recording, c.k, c.n, room);
     }
-    wonder(slots, room)
+    replies::wonder(slots, room)
 }
 
 // The end of a line, with so many bytes used.
@@ -346,7 +178,7 @@ fn end_line(
     room: &mut [u8],
 ) -> Turned
     requires { ⌜ 64 ≤ length (now room) ⌝ }
-    ensures { λ r. ⌜ Turns.Took (now (recording .entry)) (Turns.ends (now (words .entry)) (now (bytes .entry)) (now (recording .entry)) (Turns.shelf slots (now (images .entry))) line used) (now (room .entry)) r (now (images .exit)) (now (room .exit)) ⌝ }
+    ensures { λ r. ⌜ Turns.Took (now (recording .entry)) (Turns.ends (now (words .entry)) (now (bytes .entry)) (now (recording .entry)) (Promised.shelf slots (now (images .entry))) line used) (now (room .entry)) r (now (images .exit)) (now (room .exit)) ⌝ }
 {
     let done = obey(
         words,

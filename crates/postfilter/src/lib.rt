@@ -1,65 +1,26 @@
 // Two cascaded output reconstruction sections.
 ghost use mathlib.Core.Path.{_≡_};
 ghost use Prim.Native.Nat.{_≤_};
-ghost use mathlib.Core.Bool.{_&&_, not};
 ghost use mathlib.Core.List.{map};
-ghost use lib.IntN.{pos};
 ghost use lib.ListN.{length};
 ghost use Rattle.tables.specs.Places.{WORDS};
 ghost use Rattle.fixed.specs.Fixed as Fixed;
-ghost use Rattle.postfilter.specs.Postfilter as Postfilter;
-ghost use Rattle.postfilter.specs.Unscaled as Unscaled;
-use fixed::clips;
+ghost use Rattle.output_filter.specs.Postfilter as Postfilter;
+ghost use Rattle.output_filter.specs.Sections as Sections;
 use fixed::ends;
 use fixed::fold;
-use fixed::hi;
+use fixed::fold_narrow;
 use fixed::mul;
 use fixed::one;
-use fixed::sat;
 use fixed::shift;
 use fixed::trunc32;
-use slices::copy;
+use output_filter::Filtered;
+use output_filter::Lines;
+use output_filter::OutputFilter;
+use output_filter::Taps;
 use tables::OUT_FIR;
 use tables::OUT_IIR;
 use tables::word;
-
-// State of the output reconstruction filter: three of each for the first section, and three for the second.
-pub struct OutputFilter {
-    // Feed-forward delay lines.
-    pub fir: [i16; 6],
-    // Feedback delay lines.
-    pub iir: [i32; 6],
-}
-
-// The words that both sections multiply by: forward, and back.
-pub struct Taps {
-    pub ff: [i16; 4],
-    pub fb: [i16; 3],
-}
-
-// What a section gives: its output, and what its feedback delay line takes in.
-struct Section {
-    value: i16,
-    memory: i32,
-}
-
-// What a sample leaves: the filter, and what comes of the sample.
-struct Step {
-    filter: OutputFilter,
-    value: i16,
-}
-
-// That, and whether saturation changes a value in the first section and not in the scaling to come.
-struct Passed {
-    step: Step,
-    clips: bool,
-}
-
-// What a block leaves: the filter, and at how many samples saturation changed a value.
-pub struct Filtered {
-    pub filter: OutputFilter,
-    pub clipped: u8,
-}
 
 // Final output scaling, Q15.
 const OUT_SCALE: i16 = 19661;
@@ -99,224 +60,200 @@ fn back(sum: i64, x: i32, tap: i16) -> i64
     fold(sum, -shift(product, 1))
 }
 
-// The input and the three before it.
-fn inputs(taps: Taps, filter: OutputFilter, at: usize, value: i16) -> i64
-    requires { ⌜ «at» ≤ 3 ⌝ }
-    ensures { λ r. ⌜ r ≡ Postfilter.inputs taps filter «at» value ⌝ }
+// A section's sum: what comes in, and what is fed back. Each of those terms is wrapped by itself: the compiler then needs no shift for it.
+fn section_sum(taps: Taps, lines: Lines, value: i16) -> i64
+    ensures { λ r. ⌜ r ≡ Sections.lineSum taps lines value ⌝ }
 {
     let ff = taps.ff;
-    let fir = filter.fir;
-    let b0 = forward(0, value, ff[0]);
-    let b1 = forward(b0, fir[at], ff[1]);
-    let b2 = forward(b1, fir[at + 1], ff[2]);
-    forward(b2, fir[at + 2], ff[3])
-}
-
-// A section's sum: what comes in, and what is fed back.
-fn section_sum(taps: Taps, filter: OutputFilter, at: usize, value: i16) -> i64
-    requires { ⌜ «at» ≤ 3 ⌝ }
-    ensures { λ r. ⌜ r ≡ Postfilter.sectionSum taps filter «at» value ⌝ }
-{
     let fb = taps.fb;
-    let iir = filter.iir;
-    let b0 = inputs(taps, filter, at, value);
-    let b1 = back(b0, iir[at], fb[0]);
-    let b2 = back(b1, iir[at + 1], fb[1]);
-    back(b2, iir[at + 2], fb[2])
+    let fir = lines.fir;
+    let iir = lines.iir;
+    let b0 = forward(0, value, ff[0]);
+    let b1 = forward(b0, fir[0], ff[1]);
+    let b2 = forward(b1, fir[1], ff[2]);
+    let b3 = forward(b2, fir[2], ff[3]);
+    let b4 = fold(b3, back(0, iir[2], fb[2]));
+    let b5 = fold(b4, back(0, iir[1], fb[1]));
+    fold(b5, back(0, iir[0], fb[0]))
 }
 
-// The high half of sum times 2 ^ up, rounded.
-fn rounded(sum: i64, up: i32) -> i16
-    ensures { λ r. ⌜ r ≡ Postfilter.rounded sum up ⌝ }
+// The section's output before it is saturated: four times the sum, rounded, without its low half.
+fn wide(sum: i64) -> i32
+    ensures { λ r. ⌜ r ≡ Sections.wide sum ⌝ }
 {
-    hi(sat(fold(shift(sum, up), 32768)))
+    (fold(shift(sum, 2), 32768) >> 16) as i32
 }
 
-// A section's output and memory, by its sum.
-fn section_of(sum: i64) -> Section
-    ensures { λ r. ⌜ r ≡ Unscaled.sectionOf sum ⌝ }
+// The lines moved on by an input and its sum.
+fn moved(lines: Lines, value: i16, sum: i64) -> Lines
+    ensures { λ r. ⌜ r ≡ Sections.moved lines value sum ⌝ }
 {
+    let fir = lines.fir;
+    let iir = lines.iir;
     let memory = trunc32(shift(sum, 1)) as i32;
-    Section {
-        value: rounded(sum, 2),
-        memory: memory,
+    Lines {
+        fir: [value, fir[0], fir[1]],
+        iir: [memory, iir[0], iir[1]],
     }
 }
 
-// Whether the final scaling's saturation changes its value.
-fn scaling_clips(value: i16) -> bool
-    ensures { λ r. ⌜ r ≡ Unscaled.scalingClips value ⌝ }
+// A block through one section. Its outputs are saturated after it, eight at a time: no sum waits for them.
+fn through(taps: Taps, lines: Lines, input: &[i16], output: &mut [i32]) -> Lines
+    requires { ⌜ length (now output) ≡ length (now input) ⌝ }
+    ensures outputs { λ _. ⌜ now (output .exit) ≡ Sections.through taps lines (now (input .entry)) ⌝ }
+    ensures left { λ r. ⌜ r ≡ Sections.left taps lines (now (input .entry)) ⌝ }
 {
-    clips(fold(shift(forward(0, value, OUT_SCALE), 1), 32768))
-}
-
-// Whether saturation changes a value in the first section, by its sum, and in the scaling of the second's output does not. Seldom does it in the first: the rest is worked out only there.
-fn first_clips(sum: i64, value: i16) -> bool
-    ensures { λ r. ⌜ r ≡ (Fixed.clips (Postfilter.roundedSum sum (pos 2)) && not (Unscaled.scalingClips value)) ⌝ }
-{
-    if clips(fold(shift(sum, 2), 32768)) {
-        return !scaling_clips(value);
-    }
-    false
-}
-
-// Both sections' lines moved on by one: of words, and of 32-bit numbers.
-fn words_moved(line: [i16; 6], first: i16, second: i16) -> [i16; 6]
-    ensures { λ r. ⌜ r ≡ Postfilter.moved line first second ⌝ }
-{
-    [first, line[0], line[1], second, line[3], line[4]]
-}
-
-fn numbers_moved(line: [i32; 6], first: i32, second: i32) -> [i32; 6]
-    ensures { λ r. ⌜ r ≡ Postfilter.moved line first second ⌝ }
-{
-    [first, line[0], line[1], second, line[3], line[4]]
-}
-
-// Advance both sections; the scaling comes after the block.
-fn filter_sample(taps: Taps, filter: OutputFilter, value: i16) -> Step
-    ensures { λ r. ⌜ r ≡ Unscaled.filterSample taps filter value ⌝ }
-{
-    let first = section_of(section_sum(taps, filter, 0, value));
-    let second = section_of(section_sum(taps, filter, 3, first.value));
-    let words = filter.fir;
-    let numbers = filter.iir;
-    let fir = words_moved(words, value, first.value);
-    let iir = numbers_moved(numbers, first.memory, second.memory);
-    Step {
-        filter: OutputFilter { fir: fir, iir: iir },
-        value: second.value,
-    }
-}
-
-// Run a block through the two sections, without the scaling, and keep what comes of each sample behind the first: it is the fourth word of the delay lines.
-fn sections(
-    filter: OutputFilter,
-    words: &[i16],
-    block: &mut [i16],
-    firsts: &mut [i16],
-) -> OutputFilter
-    requires { ⌜ (length (now words) ≡ WORDS) × (length (now block) ≤ length (now firsts)) ⌝ }
-    ensures outputs { λ _. ⌜ now (block .exit) ≡ Unscaled.outputs (now (words .entry)) filter (now (block .entry)) ⌝ }
-    ensures after { λ r. ⌜ r ≡ Postfilter.after (now (words .entry)) filter (now (block .entry)) ⌝ }
-    ensures firsts { λ _. ⌜ Unscaled.Firsts (now (words .entry)) filter (now (block .entry)) (now (firsts .exit)) (length (now (block .entry))) ⌝ }
-{
-    let taps = taps_of(words);
-    let mut state = filter;
+    let mut state = lines;
     let mut n = 0;
-    while n < block.len() {
-        let step = filter_sample(taps, state, block[n]);
-        let y = step.value;
-        block[n] = y;
-        state = step.filter;
-        let line = state.fir;
-        let first = line[3];
-        firsts[n] = first;
+    while n < input.len() {
+        let x = input[n];
+        let sum = section_sum(taps, state, x);
+        let y = wide(sum);
+        output[n] = y;
+        state = moved(state, x, sum);
         n += 1;
     }
     state
 }
 
-// The final output scaling.
-fn scaled(value: i16) -> i16
-    ensures { λ r. ⌜ r ≡ Postfilter.scaled value ⌝ }
+// Saturated to 16 bits.
+fn short(v: i32) -> i16
+    ensures { λ r. ⌜ r ≡ Sections.short v ⌝ }
 {
-    rounded(forward(0, value, OUT_SCALE), 1)
+    if v < -32768 {
+        -32768
+    } else if 32767 < v {
+        32767
+    } else {
+        v as i16
+    }
 }
 
-// Scale a block: a loop of its own, since what the sections carry from sample to sample would keep it to one at a time.
+// Whether that changes a value.
+fn beyond(v: i32) -> bool
+    ensures { λ r. ⌜ r ≡ Sections.beyond v ⌝ }
+{
+    if v < -32768 { true } else { 32767 < v }
+}
+
+// A block's values saturated.
+fn shorten(input: &[i32], output: &mut [i16])
+    requires { ⌜ length (now output) ≡ length (now input) ⌝ }
+    ensures { λ _. ⌜ now (output .exit) ≡ map Sections.short (now (input .entry)) ⌝ }
+{
+    let mut n = 0;
+    while n < input.len() {
+        let y = short(input[n]);
+        output[n] = y;
+        n += 1;
+    }
+}
+
+// A value scaled, rounded, and not yet saturated: all in 32 bits.
+fn scaled_by(value: i16, scale: i16) -> i32
+    ensures { λ r. ⌜ r ≡ Sections.scaledBy value scale ⌝ }
+{
+    fold_narrow((value as i32) * (scale as i32), 8192) >> 14
+}
+
+// Scale a block.
 fn scale(block: &mut [i16])
     ensures { λ _. ⌜ now (block .exit) ≡ map Postfilter.scaled (now (block .entry)) ⌝ }
 {
     let mut n = 0;
     while n < block.len() {
-        let y = scaled(block[n]);
+        let y = short(scaled_by(block[n], OUT_SCALE));
         block[n] = y;
         n += 1;
     }
 }
 
-// A sample through both sections, and whether it counts by the first.
-fn pass(taps: Taps, filter: OutputFilter, value: i16) -> Passed
-    ensures { λ r. ⌜ r ≡ Unscaled.passed taps filter value ⌝ }
+// Whether saturation changes a value on a sample's way, by what the sections made of it.
+fn clips_at(first: i32, second: i32) -> bool
+    ensures { λ r. ⌜ r ≡ Sections.clipsAt first second ⌝ }
 {
-    let step = filter_sample(taps, filter, value);
-    let sum = section_sum(taps, filter, 0, value);
-    let counts = first_clips(sum, step.value);
-    Passed {
-        step: step,
-        clips: counts,
+    if beyond(first) {
+        return true;
     }
+    beyond(scaled_by(short(second), OUT_SCALE))
 }
 
-// The sections again, with the samples that count by the first.
-fn counted(filter: OutputFilter, words: &[i16], block: &mut [i16]) -> Filtered
-    requires { ⌜ (length (now words) ≡ WORDS) × (length (now block) ≤ 80) ⌝ }
-    ensures outputs { λ _. ⌜ now (block .exit) ≡ Unscaled.outputs (now (words .entry)) filter (now (block .entry)) ⌝ }
-    ensures filtered { λ r. ⌜ r ≡ Unscaled.filtered (now (words .entry)) filter (now (block .entry)) ⌝ }
+// At how many samples of a block it does. What saturation changed is at an end of 16 bits: only a block with such a sample, behind the first section or at last, is
+// looked through.
+fn clipped(first: &[i32], second: &[i32], firsts: &[i16], outputs: &[i16]) -> u8
+    requires { ⌜ (length (now first) ≤ 80) × (length (now second) ≡ length (now first)) ⌝ }
+    requires { ⌜ (now firsts ≡ map Sections.short (now first)) × (now outputs ≡ map Postfilter.scaled (map Sections.short (now second))) ⌝ }
+    ensures { λ r. ⌜ r ≡ Sections.clippedBy (now (first .entry)) (now (second .entry)) ⌝ }
 {
-    let taps = taps_of(words);
-    let mut state = filter;
-    let mut clipped = 0u8;
-    let mut n = 0;
-    while n < block.len() {
-        let passed = pass(taps, state, block[n]);
-        let step = passed.step;
-        let y = step.value;
-        block[n] = y;
-        state = step.filter;
-        clipped += one(passed.clips);
-        n += 1;
+    if ends(&firsts[..]) + ends(&outputs[..]) == 0 {
+        return 0;
     }
-    Filtered {
-        filter: state,
-        clipped,
-    }
-}
-
-// How many samples the scaling's saturation changes.
-fn scaling_clipped(block: &[i16]) -> u8
-    requires { ⌜ length (now block) ≤ 80 ⌝ }
-    ensures { λ r. ⌜ r ≡ Unscaled.scalingClipped (now (block .entry)) ⌝ }
-{
     let mut clipped = 0u8;
-    for n in 0..block.len() {
-        clipped += one(scaling_clips(block[n]));
+    for n in 0..first.len() {
+        clipped += one(clips_at(first[n], second[n]));
     }
     clipped
 }
 
-// At how many samples of a block saturation changes a value; the block is used up.
-fn clipped(filter: OutputFilter, words: &[i16], block: &mut [i16]) -> u8
-    requires { ⌜ (length (now words) ≡ WORDS) × (length (now block) ≤ 80) ⌝ }
-    ensures { λ r. ⌜ r ≡ Postfilter.clipped (now (words .entry)) filter (now (block .entry)) ⌝ }
+// The lines of the section whose delay lines begin at a place.
+fn lines_of(filter: OutputFilter, at: usize) -> Lines
+    requires { ⌜ «at» ≤ 3 ⌝ }
+    ensures { λ r. ⌜ r ≡ Sections.linesOf filter «at» ⌝ }
 {
-    let left = counted(filter, words, block);
-    left.clipped + scaling_clipped(&block[..])
+    let fir = filter.fir;
+    let iir = filter.iir;
+    Lines {
+        fir: [fir[at], fir[at + 1], fir[at + 2]],
+        iir: [iir[at], iir[at + 1], iir[at + 2]],
+    }
 }
 
-// Run a block of at most 80 samples through the two sections, and scale what comes of it. What saturation changed is at an end of 16 bits: only a block with
-// such a sample, behind the first section or at last, is run again to be counted.
+// Both sections' lines as one filter.
+fn both(first: Lines, second: Lines) -> OutputFilter
+    ensures { λ r. ⌜ r ≡ Sections.both first second ⌝ }
+{
+    let f = first.fir;
+    let s = second.fir;
+    let g = first.iir;
+    let t = second.iir;
+    OutputFilter {
+        fir: [f[0], f[1], f[2], s[0], s[1], s[2]],
+        iir: [g[0], g[1], g[2], t[0], t[1], t[2]],
+    }
+}
+
+// Run a block of at most 80 samples through the first section, what comes of it through the second, and scale what comes of that.
 pub fn run(filter: OutputFilter, words: &[i16], block: &mut [i16]) -> Filtered
     requires { ⌜ (length (now words) ≡ WORDS) × (length (now block) ≤ 80) ⌝ }
     ensures outputs { λ _. ⌜ now (block .exit) ≡ Postfilter.outputs (now (words .entry)) filter (now (block .entry)) ⌝ }
     ensures filtered { λ r. ⌜ r ≡ Postfilter.filtered (now (words .entry)) filter (now (block .entry)) ⌝ }
 {
     let count = block.len();
-    let mut saved = [0i16; 80];
-    copy(&mut saved[..count], &block[..]);
+    let taps = taps_of(words);
+    let mut wide_firsts = [0i32; 80];
+    let first_lines = lines_of(filter, 0);
+    let first = through(taps, first_lines, &block[..], &mut wide_firsts[..count]);
     let mut firsts = [0i16; 80];
-    let state = sections(filter, words, block, &mut firsts[..]);
+    shorten(&wide_firsts[..count], &mut firsts[..count]);
+    let mut wide_seconds = [0i32; 80];
+    let second_lines = lines_of(filter, 3);
+    let second = through(
+        taps,
+        second_lines,
+        &firsts[..count],
+        &mut wide_seconds[..count],
+    );
+    shorten(&wide_seconds[..count], block);
     scale(block);
-    if ends(&firsts[..]) + ends(&block[..]) == 0 {
-        return Filtered {
-            filter: state,
-            clipped: 0,
-        };
-    }
-    let clipped = clipped(filter, words, &mut saved[..count]);
+    let clipped = clipped(
+        &wide_firsts[..count],
+        &wide_seconds[..count],
+        &firsts[..count],
+        &block[..],
+    );
+    let left = both(first, second);
     Filtered {
-        filter: state,
+        filter: left,
         clipped,
     }
 }

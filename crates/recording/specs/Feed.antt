@@ -22,7 +22,7 @@ use Rattle.heard.specs.declared.Recorder.{Recorder}
 use Rattle.heard.specs.declared.Said.{Said}
 use Rattle.recording.specs.declared.Fed.{Fed}
 use Rattle.hex.specs.Text.{isFrame, isOnly}
-use Rattle.hex.specs.File as File
+use Rattle.table_file.specs.File as File
 use Rattle.heard.specs.Recording.{event, lineStep, lineText, isStart, opening, transcriptOf, transcript, tablesText, output, program}
 use Rattle.heard.specs.Start.{begin, startTextBy, startText, startedBy, started}
 

@@ -5,16 +5,16 @@ ghost use lib.IntN.{pos};
 ghost use lib.ListN.{length, getD, set};
 ghost use Rattle.reflection.specs.Reflection as Levinson;
 use fixed::acc;
-use fixed::exponent;
 use fixed::fold;
 use fixed::hi;
 use fixed::mul;
 use fixed::mul32x16;
-use fixed::normalised_reciprocal;
-use fixed::quotient;
 use fixed::sat;
 use fixed::shift;
-use fixed::zeros;
+use reciprocal::exponent;
+use reciprocal::normalised_reciprocal;
+use reciprocal::quotient;
+use reciprocal::zeros;
 
 // 1 - k^2 in Q30: zero or negative for a k of 4096 or more.
 fn residual(kv: i16) -> i64

@@ -1,3 +1,1 @@
-mod Looked
-mod Texts
 mod Turns

@@ -11,13 +11,13 @@ use Rattle.stream.specs.Held.{shown, zeros, pushText, pushCount}
 use Rattle.stream.specs.Machine.{Streamed, streamed-most}
 use Rattle.stream.specs.Decimal.{decimal, decimal-long}
 use Rattle.hex.specs.Text.{isOnly}
-use Rattle.repair.specs.declared.Place.{Place}
-use Rattle.repair.specs.Repair.{isReturn, isBlank, isCapital, bare, lower, cleaned, passes, isKept, mended, any, return, blank, letter, replaced, said, happened, entry, step, lineEntry}
-use Rattle.repair.specs.Repair as Repair
-use Rattle.repair.specs.Look.{lineText}
+use Rattle.mending.specs.declared.Place.{Place}
+use Rattle.mending.specs.Repair.{isReturn, isBlank, isCapital, bare, lower, cleaned, passes, isKept, mended, any, return, blank, letter, replaced, said, happened, entry, step, lineEntry}
+use Rattle.mending.specs.Repair as Repair
+use Rattle.mending.specs.Look.{lineText}
 use Rattle.repair.specs.Feed.{Standing, standing, heldLine, toldCount, fed, written, entered, ending, lastEntered, roomFor, listRoomFor, long-mended, long-step, long-entry}
-use Rattle.repair.proofs.Texts.{said-long}
-use Rattle.repair.proofs.Looked.{passes-short}
+use Rattle.mending.specs.Texts.{said-long}
+use Rattle.mending.specs.Looked.{passes-short}
 
 abbrev pub stands : Place → ℕ → List ℕ → Standing
 stands place n held = standing (record { place = place; n = n }) held

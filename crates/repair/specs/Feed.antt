@@ -14,10 +14,10 @@ use Rattle.stream.specs.Reads.{Read, inputOf, answers}
 use Rattle.stream.specs.Reads as Reads
 use Rattle.stream.specs.Told.{told, last, piecesTold, told-lines, Machine, any-cut}
 use Rattle.hex.specs.Text.{isFrame, isOnly}
-use Rattle.repair.specs.declared.Place.{Place}
+use Rattle.mending.specs.declared.Place.{Place}
 use Rattle.repair.specs.declared.Mender.{Mender}
 use Rattle.repair.specs.declared.Fed.{Fed}
-use Rattle.repair.specs.Repair.{bare, cleaned, passes, isKept, mended, happened, first, step, lineText, lastText, lineEntry, repaired, list}
+use Rattle.mending.specs.Repair.{bare, cleaned, passes, isKept, mended, happened, first, step, lineText, lastText, lineEntry, repaired, list}
 use Rattle.repair.specs.Lent.{lent, lent-none, lent-long, lent-push, lent-same}
 
 -- ---- where a file stands, with what the lent buffer holds

@@ -12,9 +12,9 @@ use Rattle.sequence.specs.All.{and-left, and-right}
 use Rattle.stream.specs.Lines.{pieces, ofPieces, lines, plain, line-first, line-last}
 use Rattle.stream.specs.Told.{after, texts, piecesTold}
 use Rattle.hex.specs.Text.{isOnly}
-use Rattle.repair.specs.declared.Place.{Place}
-use Rattle.repair.specs.Repair.{mended, entry, first, step, lineText, lastText, lineEntry, repaired, list}
-use Rattle.repair.specs.Laws.{isSound, mended-sound, kind, kind-plain, sound-same, same-unlisted, unlisted-same, entry-none}
+use Rattle.mending.specs.declared.Place.{Place}
+use Rattle.mending.specs.Repair.{mended, entry, first, step, lineText, lastText, lineEntry, repaired, list}
+use Rattle.mending.specs.Laws.{isSound, mended-sound, kind, kind-plain, sound-same, same-unlisted, unlisted-same, entry-none}
 
 -- ---- the lines that come out are the lines that went in, each mended
 unfoldable pub mendedAll : Bool → List (List ℕ) → List (List ℕ)

@@ -17,16 +17,16 @@ use Rattle.tables.specs.Places.{WORDS, BYTES}
 use Rattle.tables.specs.Tables.{broken, check}
 use Rattle.tables.specs.Rules.{tests}
 use Rattle.bits.specs.Bits.{fieldsOf}
-use Rattle.frame.specs.Frame as Frame
+use Rattle.observation.specs.Frame as Frame
 use Rattle.state.specs.declared.State.{State}
 use Rattle.state.specs.State.{obeys}
 use Rattle.calls.specs.Celp.{refusal, refused, accepted, answer, decode, samples}
 use Rattle.calls.specs.Run.{heard}
 use Rattle.hex.specs.Text.{digit, isDigit, isFrame, isOnly, byteAt, payload, frameText, refusedText}
 use Rattle.heard.specs.Recording.{event, blank, answerText, text, lineText, isStart, opening}
-use Rattle.repair.specs.Repair.{repaired}
-use Rattle.repair.specs.Bytes.{isLower, lower-digits}
-use Rattle.repair.specs.Laws.{only-is, isSound, isLowerFrame, Kind, equals, start, frame, dash, kind}
+use Rattle.mending.specs.Repair.{repaired}
+use Rattle.mending.specs.Bytes.{isLower, lower-digits}
+use Rattle.mending.specs.Laws.{only-is, isSound, isLowerFrame, Kind, equals, start, frame, dash, kind}
 use Rattle.repair.specs.Files.{allSound, repaired-sound}
 
 -- no line is `=`

@@ -20,7 +20,7 @@ fn amount(x: i64) -> i32 {
 }
 
 fn divided(v: i64, by: i16, steps: u64) -> i64 {
-    fixed::restoring_divide(fixed::acc(v), by, (steps % 64) as u32)
+    reciprocal::restoring_divide(fixed::acc(v), by, (steps % 64) as u32)
 }
 
 fn one(x: i64) {
@@ -40,16 +40,16 @@ pub fn answer(n: [i64; 128]) {
         5 => one(fixed::mul_us(x, y)),
         6 => one(fixed::mul32x16(v, y)),
         7 => one(fixed::trunc32(v)),
-        8 => one(wide32(fixed::exp(v))),
+        8 => one(wide32(reciprocal::exp(v))),
         9 => one(fixed::shift(v, amount(n[3]))),
         10 => one(divided(v, y, fixed::magnitude(n[4]))),
         _ => {
-            let r = fixed::normalised_reciprocal(v);
+            let r = reciprocal::normalised_reciprocal(v);
             say(
                 &[
-                    fixed::quotient(r),
-                    wide32(fixed::exponent(r)),
-                    wide8(fixed::zeros(r)),
+                    reciprocal::quotient(r),
+                    wide32(reciprocal::exponent(r)),
+                    wide8(reciprocal::zeros(r)),
                 ],
             );
         }

@@ -46,7 +46,7 @@ fn main() {
     let got = pipe::read_file(b"tables.bin", &mut file);
     let n = got.n;
     let mut words = [0i16; 5963];
-    if hex::check_file(&file[..n], &mut words) == 0 {
+    if table_file::check_file(&file[..n], &mut words) == 0 {
         asked_all(&words, &file[11926..15834]);
     }
 }

@@ -53,7 +53,7 @@ fn asked_all(words: &[i16], other: &[i16])
 fn replayed(words: &[i16], bytes: &[u8], other: &[i16])
     requires { ⌜ length (now other) ≡ WORDS ⌝ }
 {
-    if tables::check(words, bytes) == 0 {
+    if rules::check(words, bytes) == 0 {
         asked_all(words, other);
     }
 }
@@ -63,11 +63,11 @@ fn main() {
     let narrow = pipe::read_file(b"narrow.bin", &mut file);
     let m = narrow.n;
     let mut other = [0i16; 5963];
-    if hex::check_file(&file[..m], &mut other) == 0 {
+    if table_file::check_file(&file[..m], &mut other) == 0 {
         let got = pipe::read_file(b"tables.bin", &mut file);
         let n = got.n;
         let mut words = [0i16; 5963];
-        if hex::check_file(&file[..n], &mut words) == 0 {
+        if table_file::check_file(&file[..n], &mut words) == 0 {
             replayed(&words, &file[11926..15834], &other);
         }
     }

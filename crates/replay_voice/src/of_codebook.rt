@@ -1,5 +1,5 @@
 // The answers of codebook: an index; out comes 0 where a digit does not fit, else 1, the class and the innovation.
-use codebook::Innovation;
+use code_index::Innovation;
 use libc::STDOUT_FILENO;
 use questions::end_line;
 use questions::say;
@@ -22,7 +22,7 @@ pub fn answer(words: &[i16], n: [i64; 128])
     requires { ⌜ SoundWords (now words) ⌝ }
 {
     let i = index(n[1]);
-    if codebook::digits_fit(words, i) {
+    if code_index::digits_fit(words, i) {
         say_innovation(codebook::decode(words, i));
     } else {
         say(&[0]);

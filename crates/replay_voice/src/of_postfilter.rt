@@ -1,6 +1,6 @@
 // The answers of postfilter: a seed; out come 16 of its samples, filtered after 24 that the seed 1000 on gives.
 use fixed::magnitude;
-use postfilter::OutputFilter;
+use output_filter::OutputFilter;
 use questions::samples;
 use questions::say_line;
 ghost use mathlib.Core.Path.{_≡_};

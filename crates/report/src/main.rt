@@ -3,9 +3,9 @@ ghost use mathlib.Core.Path.{_≡_};
 ghost use mathlib.Core.Bool.{not, _&&_};
 ghost use lib.Dec.{ltb};
 ghost use Rattle.heard.specs.Start as Start;
-ghost use Rattle.term.specs.Feed as Feed;
+ghost use Rattle.term_steps.specs.Feed as Feed;
 use libc::STDERR_FILENO;
-use term::Recorder;
+use term_steps::Recorder;
 
 // Where the input stands after a read, and whether there is use in more.
 struct Turn {

@@ -14,9 +14,10 @@ use Rattle.state.specs.State.{obeys}
 use Rattle.slots.specs.declared.Slot.{Slot}
 use Rattle.slots.specs.declared.Records.{Records}
 use Rattle.slots.specs.Slots.{noSlot, shown}
+use Rattle.slot_users.specs.Users.{SLOTS, users, slotAt}
+use Rattle.slot_users.specs.Held.{held-yes}
 use Rattle.shelf.specs.declared.Fetched.{Fetched}
-use Rattle.shelf.specs.Shelf.{SLOTS, ROOM, users, slotAt, stateAt, lent, judged, notFetched, fetchLent, fetch}
-use Rattle.shelf.specs.Cases.{held-yes}
+use Rattle.shelf.specs.Shelf.{ROOM, stateAt, lent, judged, notFetched, fetchLent, fetch}
 use Rattle.forward.specs.Forward.{frames, forward}
 use Rattle.seek.specs.declared.Sought.{Sought}
 use Rattle.seek.specs.Best.{fits, best, best-means}

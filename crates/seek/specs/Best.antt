@@ -9,7 +9,7 @@ use native.Mathlib.Omega.{arith}
 use lib.Dec.{eqb, ltb, leb}
 use borrow.Author.Tests.{ltb-true, ltb-false, leb-true, leb-false}
 use Rattle.slots.specs.declared.Slot.{Slot}
-use Rattle.shelf.specs.Shelf.{SLOTS, slotAt}
+use Rattle.slot_users.specs.Users.{SLOTS, slotAt}
 use Rattle.seek.specs.declared.Save.{Save}
 
 module _ (k : ℕ) where

@@ -18,7 +18,8 @@ use Rattle.calls.specs.Run.{run}
 use Rattle.calls.specs.StateRule.{Obeying, initial-obeying, run-obeying}
 use Rattle.heard.specs.Recording.{event, isStart, Opening, opening, lineStep}
 use Rattle.slots.specs.declared.Slot.{Slot}
-use Rattle.shelf.specs.Shelf.{SLOTS, ROOM, slotAt, stateAt, lent, judged}
+use Rattle.slot_users.specs.Users.{SLOTS, slotAt}
+use Rattle.shelf.specs.Shelf.{ROOM, stateAt, lent, judged}
 use Rattle.shelf.specs.Cases.{is-lent}
 use Rattle.forward.specs.Forward.{frames, forward, before, forward-before}
 use Rattle.seek.specs.declared.Sought.{Sought}

@@ -9,7 +9,8 @@ use Rattle.tables.specs.Tables.{check}
 use Rattle.state.specs.declared.State.{State}
 use Rattle.state.specs.State.{allZero, obeys}
 use Rattle.slots.specs.declared.Slot.{Slot}
-use Rattle.shelf.specs.Shelf.{SLOTS, slotAt, stateAt, judged}
+use Rattle.slot_users.specs.Users.{SLOTS, slotAt}
+use Rattle.shelf.specs.Shelf.{stateAt, judged}
 use Rattle.forward.specs.Forward.{frames, forward}
 use Rattle.seek.specs.Best.{best}
 use Rattle.seek.specs.declared.Sought.{Sought}

@@ -7,7 +7,7 @@ ghost use Rattle.shelf.specs.Shelf as Shelf;
 ghost use Rattle.seek.specs.Best as Best;
 ghost use Rattle.seek.specs.Seek as Seek;
 use shelf::ROOM;
-use shelf::SLOTS;
+use slot_users::SLOTS;
 use slots::Records;
 use slots::Slot;
 use state::State;
@@ -120,7 +120,7 @@ fn seeking(
     if !forward::has_frame(recording, k) {
         return not_sought(15);
     }
-    let number = tables::check(words, bytes);
+    let number = rules::check(words, bytes);
     if number != 0 {
         return not_sought(number);
     }

@@ -10,9 +10,11 @@ use native.Mathlib.Nat.{le-refl}
 use Rattle.slots.specs.Slots.{noSlot, shown}
 use Rattle.slots.specs.declared.Slot.{Slot}
 use Rattle.slots.specs.declared.Records.{Records}
-use Rattle.shelf.specs.Shelf.{SLOTS, ROOM, lent, judged, Decision, refuse, change as changes, number, slotOf, slotsAfter, imagesAfter, saveLent, save, fetchLent, fetch, notFetched, Done, SaveDone}
-use Rattle.shelf.specs.ByValue.{change, taking}
-use Rattle.shelf.specs.declared.Change.{Change}
+use Rattle.slot_users.specs.Users.{SLOTS, Decision, refuse, change as changes}
+use Rattle.slot_users.specs.ByValue.{change}
+use Rattle.slot_users.specs.declared.Change.{Change}
+use Rattle.shelf.specs.Shelf.{ROOM, lent, judged, number, slotOf, slotsAfter, imagesAfter, saveLent, save, fetchLent, fetch, notFetched, Done, SaveDone}
+use Rattle.shelf.specs.ByValue.{taking}
 use Rattle.shelf.specs.declared.AfterChange.{AfterChange}
 use Rattle.shelf.specs.declared.Taking.{Taking}
 use Rattle.shelf.specs.declared.Fetched.{Fetched}

@@ -26,9 +26,12 @@ use Rattle.image.specs.Image.{Held}
 use Rattle.image.specs.RoundTrips.{length-image}
 use Rattle.slots.specs.declared.Slot.{Slot}
 use Rattle.slots.specs.Slots.{noSlot}
+use Rattle.slot_users.specs.Users as Users
+use Rattle.slot_users.specs.Users.{SLOTS, users, slotAt, free, ofHeld, Decision, refuse, change}
+use Rattle.slot_users.specs.Held.{held-out, held-none, held-yes}
 use Rattle.shelf.specs.Shelf as Calls
-use Rattle.shelf.specs.Shelf.{SLOTS, ROOM, users, slotAt, free, stateAt, withImage, lent, judged, ofHeld, notFetched, Decision, refuse, change, number, slotsAfter, imagesAfter}
-use Rattle.shelf.specs.Cases.{judged-lent, held-out, held-none, held-yes, is-lent, save-taken}
+use Rattle.shelf.specs.Shelf.{ROOM, stateAt, withImage, lent, judged, notFetched, number, slotsAfter, imagesAfter}
+use Rattle.shelf.specs.Cases.{judged-lent, is-lent, save-taken}
 use Rattle.shelf.specs.Images.{length-with, state-same, state-other}
 use Rattle.shelf.specs.Run.{Shelf, zeros, Call, save, hold, letGo, fetch, saving, holding, lettingGo, after, run, on, save1, hold1, letGo1, saves, holds, lettings, last1, lastSaved, HeldCall, Holdable}
 
@@ -46,7 +49,7 @@ data Holds (l : List Slot) (room j : ℕ) : Type 0 where
   done : Calls.hold l room j ≡ change j (record { users = users l j + 1; frame = slotAt l j .frame }) → j < SLOTS → (users l j ≡ 0 → ⊥) → Holds l room j
 
 see-hold : (l : List Slot) (room j : ℕ) → Holds l room j
-unfolding Calls.hold Calls.holdLent judged ofHeld
+unfolding Calls.hold Users.holdLent judged ofHeld
 see-hold l room j = by (lent (length l) room) (ltb j SLOTS) (eqb (users l j) 0) (eqb (users l j) 255) refl refl refl refl
   where
     by : (a b c d : Bool) → lent (length l) room ≡ a → ltb j SLOTS ≡ b → eqb (users l j) 0 ≡ c → eqb (users l j) 255 ≡ d → Holds l room j
@@ -61,7 +64,7 @@ data LetsGo (l : List Slot) (room j : ℕ) : Type 0 where
   done : Calls.letGo l room j ≡ change j (record { users = users l j - 1; frame = slotAt l j .frame }) → j < SLOTS → (users l j ≡ 0 → ⊥) → LetsGo l room j
 
 see-letGo : (l : List Slot) (room j : ℕ) → LetsGo l room j
-unfolding Calls.letGo Calls.letGoLent judged ofHeld
+unfolding Calls.letGo Users.letGoLent judged ofHeld
 see-letGo l room j = by (lent (length l) room) (ltb j SLOTS) (eqb (users l j) 0) refl refl refl
   where
     by : (a b c : Bool) → lent (length l) room ≡ a → ltb j SLOTS ≡ b → eqb (users l j) 0 ≡ c → LetsGo l room j
@@ -310,11 +313,11 @@ module _ (k : ℕ) where
     fetch-none = judged-lent _ _ _ _ (lent-sized h z) ∙ none (h .slots) notFetched _ e
 
     hold-none : holding h k ≡ refuse 13
-    unfolding Calls.hold Calls.holdLent
+    unfolding Calls.hold Users.holdLent
     hold-none = judged-lent _ _ _ _ (lent-sized h z) ∙ none (h .slots) refuse _ e
 
     letGo-none : lettingGo h k ≡ refuse 13
-    unfolding Calls.letGo Calls.letGoLent
+    unfolding Calls.letGo Users.letGoLent
     letGo-none = judged-lent _ _ _ _ (lent-sized h z) ∙ none (h .slots) refuse _ e
 
   judged-save : (h : Shelf) (s : State) (f : ℕ) → Sized h → saving h s f ≡ Calls.saveLent (h .slots) s f

@@ -1,16 +1,17 @@
--- The refusals one by one, in their order.
+-- The refusals one by one, in their order; those of a slot that is not held are in slot_users, Held.
 use Prim.Native.Nat.{ℕ, _<_, _≤_}
 use mathlib.Core.Path.{_≡_, refl}
 use mathlib.Core.Bool.{Bool, true, false}
 use mathlib.Core.List.{List}
 use native.Mathlib.Omega.{arith}
-use borrow.Author.Tests.{lt-ltb, le-ltb, eq-eqb, ne-eqb, eqb-true}
+use borrow.Author.Tests.{lt-ltb, le-ltb, eqb-true}
 use lib.Dec.{eqb, ltb}
 use lib.ListN.{length}
 use Rattle.state.specs.declared.State.{State}
 use Rattle.state.specs.State.{obeys, allZero}
 use Rattle.slots.specs.declared.Slot.{Slot}
-use Rattle.shelf.specs.Shelf.{SLOTS, ROOM, users, free, lent, judged, ofHeld, stateAt, saveLent, fetchLent, fetch, Decision, refuse, change, number, slotOf, slotsAfter, imagesAfter}
+use Rattle.slot_users.specs.Users.{SLOTS, users, free, ofHeld, Decision, refuse, change}
+use Rattle.shelf.specs.Shelf.{ROOM, lent, judged, stateAt, saveLent, fetchLent, fetch, number, slotOf, slotsAfter, imagesAfter}
 
 module _ {A : Type 0} (count room : ℕ) (refuses : ℕ → A) (a : A) where
   pub judged-not : lent count room ≡ false → judged count room refuses a ≡ refuses 12
@@ -20,19 +21,6 @@ module _ {A : Type 0} (count room : ℕ) (refuses : ℕ → A) (a : A) where
   pub judged-lent : lent count room ≡ true → judged count room refuses a ≡ a
   unfolding judged
   judged-lent e = rw e
-
-module _ {A : Type 0} (l : List Slot) (k : ℕ) (refuses : ℕ → A) (a : A) where
-  pub held-out : SLOTS ≤ k → ofHeld l k refuses a ≡ refuses 13
-  unfolding ofHeld
-  held-out h = rw (le-ltb k SLOTS h)
-
-  pub held-none : k < SLOTS → users l k ≡ 0 → ofHeld l k refuses a ≡ refuses 13
-  unfolding ofHeld
-  held-none h e = rw (lt-ltb k SLOTS h, eq-eqb (users l k) 0 e)
-
-  pub held-yes : k < SLOTS → (users l k ≡ 0 → ⊥) → ofHeld l k refuses a ≡ a
-  unfolding ofHeld
-  held-yes h e = rw (lt-ltb k SLOTS h, ne-eqb (users l k) 0 e)
 
 -- what it takes not to be refused with 12
 pub lent-means : (count room : ℕ) → lent count room ≡ true → (count ≡ SLOTS) × (room ≡ ROOM)

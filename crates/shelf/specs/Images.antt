@@ -12,7 +12,8 @@ use Rattle.state.specs.declared.State.{State}
 use Rattle.image.specs.Image as Image
 use Rattle.image.specs.Image.{SIZE, Held}
 use Rattle.image.specs.RoundTrips.{length-image, state-back}
-use Rattle.shelf.specs.Shelf.{SLOTS, ROOM, stateAt, withImage}
+use Rattle.slot_users.specs.Users.{SLOTS}
+use Rattle.shelf.specs.Shelf.{ROOM, stateAt, withImage}
 
 module _ (m : List ℕ) (long : length m ≡ ROOM) where
   front-long : (k : ℕ) → k < SLOTS → length (take (SIZE * k) m) ≡ SIZE * k

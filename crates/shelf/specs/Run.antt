@@ -9,8 +9,9 @@ use Rattle.image.specs.Image as Image
 use Rattle.image.specs.Image.{Held}
 use Rattle.slots.specs.declared.Slot.{Slot}
 use Rattle.slots.specs.Slots.{noSlot}
+use Rattle.slot_users.specs.Users.{SLOTS, Decision, refuse, change}
 use Rattle.shelf.specs.Shelf as Calls
-use Rattle.shelf.specs.Shelf.{SLOTS, ROOM, Decision, refuse, change, slotsAfter, imagesAfter}
+use Rattle.shelf.specs.Shelf.{ROOM, slotsAfter, imagesAfter}
 
 pub record Shelf : Type 0 where
   pub slots : List Slot

@@ -1,33 +1,22 @@
 -- The shelf of saved states: sixteen slot records, and beside them the bytes of sixteen images.
-use Prim.Native.Nat.{ℕ, _+_, _-_, _*_}
+use Prim.Native.Nat.{ℕ, _+_, _*_}
 use mathlib.Core.Path.{_≡_}
 use mathlib.Core.List.{List, _++_}
 use mathlib.Core.Bool.{Bool, cond, _&&_}
 use lib.Dec.{eqb, ltb}
-use lib.ListN.{length, getD, set, take, drop}
-use Rattle.sequence.specs.First.{first}
+use lib.ListN.{length, set, take, drop}
 use Rattle.state.specs.declared.State.{State}
 use Rattle.state.specs.State.{allZero, obeys}
 use Rattle.image.specs.Image as Image
 use Rattle.image.specs.Image.{SIZE}
 use Rattle.slots.specs.declared.Slot.{Slot}
-use Rattle.slots.specs.Slots.{noSlot}
+use Rattle.slot_users.specs.Users.{SLOTS, free, Decision, refuse, change, ofHeld, holdLent, letGoLent}
 use Rattle.shelf.specs.declared.Fetched.{Fetched}
 use Rattle.shelf.specs.declared.Saved.{Saved}
 
--- how many records there are, and how many bytes their images take
-abbrev pub SLOTS : ℕ
-SLOTS = 16
-
+-- how many bytes the images of all slots take
 abbrev pub ROOM : ℕ
 ROOM = SLOTS * SIZE
-
--- the record of slot k, and how many users it has
-abbrev pub slotAt : List Slot → ℕ → Slot
-slotAt l k = getD l k noSlot
-
-abbrev pub users : List Slot → ℕ → ℕ
-users l k = slotAt l k .users
 
 -- the state whose image slot k has
 unfoldable pub stateAt : ℕ → List ℕ → State
@@ -41,16 +30,7 @@ withImage k i m = take (SIZE * k) m ++ (i ++ drop (SIZE * k + SIZE) m)
 unfoldable pub lent : ℕ → ℕ → Bool
 lent count room = eqb count SLOTS && eqb room ROOM
 
--- the lowest slot without users, or 16
-unfoldable pub free : List Slot → ℕ
-free l = first (λ k. eqb (users l k) 0) SLOTS
-
--- what a call decides: a refusal, by its number; or that slot k's record becomes another
-pub data Decision : Type 0 where
-  refuse : ℕ → Decision
-  change : ℕ → Slot → Decision
-
--- what follows of it: the number, the slot that is answered, the records, the images
+-- what follows of a decision: the number, the slot that is answered, the records, the images
 unfoldable pub number : Decision → ℕ
 number (refuse n) = n
 number (change k s) = 0
@@ -70,18 +50,6 @@ imagesAfter (change k s) i m = withImage k i m
 -- 12 where the lent parts are of another size
 unfoldable pub judged : {A : Type 0} → ℕ → ℕ → (ℕ → A) → A → A
 judged count room refuses a = cond (lent count room) a (refuses 12)
-
--- 13 where slot k is none of the sixteen, or has no users
-unfoldable pub ofHeld : {A : Type 0} → List Slot → ℕ → (ℕ → A) → A → A
-ofHeld l k refuses a = cond (ltb k SLOTS) (cond (eqb (users l k) 0) (refuses 13) a) (refuses 13)
-
--- a user more, to 255
-unfoldable pub holdLent : List Slot → ℕ → Decision
-holdLent l k = ofHeld l k refuse (cond (eqb (users l k) 255) (refuse 14) (change k (record { users = users l k + 1; frame = slotAt l k .frame })))
-
--- a user fewer
-unfoldable pub letGoLent : List Slot → ℕ → Decision
-letGoLent l k = ofHeld l k refuse (change k (record { users = users l k - 1; frame = slotAt l k .frame }))
 
 -- the lowest slot without users, for one user
 unfoldable pub saveLent : List Slot → State → ℕ → Decision

@@ -18,8 +18,10 @@ use Rattle.image.specs.Bytes.{bytesOf, numberAt}
 use Rattle.image.specs.Parts.{bytesOfAll, numbersAt, join, cut}
 use Rattle.image.specs.Image as Image
 use Rattle.slots.specs.declared.Slot.{Slot}
+use Rattle.slot_users.specs.Users as Users
+use Rattle.slot_users.specs.Users.{users, free, ofHeld, refuse, change}
 use Rattle.shelf.specs.Shelf as Calls
-use Rattle.shelf.specs.Shelf.{users, free, lent, judged, ofHeld, notFetched, refuse, change, slotsAfter, imagesAfter, withImage, stateAt}
+use Rattle.shelf.specs.Shelf.{lent, judged, notFetched, slotsAfter, imagesAfter, withImage, stateAt}
 use Rattle.shelf.specs.Run.{zeros, Call, save, hold, letGo, saving, after, run, HeldCall, Holdable}
 
 -- two calls' states
@@ -38,12 +40,12 @@ played = save first 100 ∷ hold 0 ∷ letGo 0 ∷ []
 
 -- one user is left: the player
 one-left : users (run zeros played .slots) 0 ≡ 1
-unfolding run zeros after slotsAfter imagesAfter withImage Image.image Calls.save Calls.saveLent Calls.hold Calls.holdLent Calls.letGo Calls.letGoLent judged lent ofHeld free firstFrom obeys within ofBits toBits Image.layout Image.numbers Image.unsigned join bytesOfAll bytesOf
+unfolding run zeros after slotsAfter imagesAfter withImage Image.image Calls.save Calls.saveLent Calls.hold Users.holdLent Calls.letGo Users.letGoLent judged lent ofHeld free firstFrom obeys within ofBits toBits Image.layout Image.numbers Image.unsigned join bytesOfAll bytesOf
 one-left = refl
 
 -- the other call's save goes to slot 1
 elsewhere : saving (run zeros played) other 200 ≡ change 1 (record { users = 1; frame = 200 })
-unfolding run zeros after slotsAfter imagesAfter withImage Image.image Calls.save Calls.saveLent Calls.hold Calls.holdLent Calls.letGo Calls.letGoLent judged lent ofHeld free firstFrom obeys within ofBits toBits Image.layout Image.numbers Image.unsigned join bytesOfAll bytesOf
+unfolding run zeros after slotsAfter imagesAfter withImage Image.image Calls.save Calls.saveLent Calls.hold Users.holdLent Calls.letGo Users.letGoLent judged lent ofHeld free firstFrom obeys within ofBits toBits Image.layout Image.numbers Image.unsigned join bytesOfAll bytesOf
 elsewhere = refl
 
 -- the player's fetch still gives the first state, and another's of slot 1 the other
@@ -51,7 +53,7 @@ abbrev saved-over : List Call
 saved-over = played ++ (save other 200 ∷ [])
 
 still-there : (Calls.fetch (run zeros saved-over .slots) (run zeros saved-over .images) 0 ≡ record { number = 0; state = first }) × (Calls.fetch (run zeros saved-over .slots) (run zeros saved-over .images) 1 ≡ record { number = 0; state = other })
-unfolding run zeros after slotsAfter imagesAfter withImage stateAt Image.image Image.state Image.ofNumbers Image.signed cut numbersAt table numberAt Calls.save Calls.saveLent Calls.hold Calls.holdLent Calls.letGo Calls.letGoLent Calls.fetch Calls.fetchLent judged lent ofHeld free firstFrom obeys within ofBits toBits Image.layout Image.numbers Image.unsigned join bytesOfAll bytesOf
+unfolding run zeros after slotsAfter imagesAfter withImage stateAt Image.image Image.state Image.ofNumbers Image.signed cut numbersAt table numberAt Calls.save Calls.saveLent Calls.hold Users.holdLent Calls.letGo Users.letGoLent Calls.fetch Calls.fetchLent judged lent ofHeld free firstFrom obeys within ofBits toBits Image.layout Image.numbers Image.unsigned join bytesOfAll bytesOf
 still-there = (refl, refl)
 
 -- the player lets go: the slot is fetched by nobody, and the next save takes it
@@ -59,7 +61,7 @@ abbrev over : List Call
 over = saved-over ++ (letGo 0 ∷ [])
 
 used-again : (Calls.fetch (run zeros over .slots) (run zeros over .images) 0 ≡ notFetched 13) × (saving (run zeros over) other 300 ≡ change 0 (record { users = 1; frame = 300 }))
-unfolding run zeros after slotsAfter imagesAfter withImage stateAt Image.image Image.state Image.ofNumbers Image.signed cut numbersAt table numberAt Calls.save Calls.saveLent Calls.hold Calls.holdLent Calls.letGo Calls.letGoLent Calls.fetch Calls.fetchLent judged lent ofHeld free firstFrom obeys within ofBits toBits Image.layout Image.numbers Image.unsigned join bytesOfAll bytesOf
+unfolding run zeros after slotsAfter imagesAfter withImage stateAt Image.image Image.state Image.ofNumbers Image.signed cut numbersAt table numberAt Calls.save Calls.saveLent Calls.hold Users.holdLent Calls.letGo Users.letGoLent Calls.fetch Calls.fetchLent judged lent ofHeld free firstFrom obeys within ofBits toBits Image.layout Image.numbers Image.unsigned join bytesOfAll bytesOf
 used-again = (refl, refl)
 
 -- the theorem's premise is met: each of these states is one that a program can hold
@@ -101,12 +103,12 @@ sizes = (refl, refl, refl, refl)
 
 -- slot 15 is the last; slots 16 and 4,294,967,295, and one without users, are 13
 slots : (Calls.hold (taken 16 1) 8416 15 ≡ change 15 (record { users = 2; frame = 7 })) × (Calls.hold (taken 16 1) 8416 16 ≡ refuse 13) × (Calls.letGo (taken 16 1) 8416 4294967295 ≡ refuse 13) × (Calls.letGo (taken 16 0) 8416 3 ≡ refuse 13)
-unfolding Calls.hold Calls.holdLent Calls.letGo Calls.letGoLent judged lent ofHeld
+unfolding Calls.hold Users.holdLent Calls.letGo Users.letGoLent judged lent ofHeld
 slots = (refl, refl, refl, refl)
 
 -- the 255th user is the last: a hold at 255 is 14, and the users stay
 most : (Calls.hold (taken 16 254) 8416 2 ≡ change 2 (record { users = 255; frame = 7 })) × (Calls.hold (taken 16 255) 8416 2 ≡ refuse 14) × (slotsAfter (Calls.hold (taken 16 255) 8416 2) (taken 16 255) ≡ taken 16 255)
-unfolding Calls.hold Calls.holdLent judged lent ofHeld slotsAfter
+unfolding Calls.hold Users.holdLent judged lent ofHeld slotsAfter
 most = (refl, refl, refl)
 
 -- the seventeenth save is 14, of a broken state too; a broken state is 5 where a slot is free

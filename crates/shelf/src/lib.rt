@@ -1,20 +1,22 @@
 // The shelf of saved states: sixteen slot records and as many images, lent by the player.
-// save, hold, let_go and fetch are thin: they read the records by value, leave the decision to a function on plain data, and write one record.
+// save, hold, let_go and fetch are thin: they read the records by value, leave the decision to a function on plain data, and write one record. What is decided of a slot's users is in slot_users.
 ghost use mathlib.Core.Path.{_≡_};
 ghost use Prim.Native.Nat.{_<_};
 ghost use lib.ListN.{length, set};
 ghost use Rattle.image.specs.Image as Image;
 ghost use Rattle.slots.specs.Slots.{shown};
+ghost use Rattle.slot_users.specs.Users as Users;
+ghost use Rattle.slot_users.specs.ByValue as Decided;
 ghost use Rattle.shelf.specs.Shelf as Shelf;
 ghost use Rattle.shelf.specs.ByValue as ByValue;
 use image::SIZE;
+use slot_users::Change;
+use slot_users::SLOTS;
 use slots::Records;
 use slots::Slot;
 use state::State;
 
-// How many records there are, and how many bytes their images take.
-pub const SLOTS: usize = 16;
-
+// How many bytes the images of all slots take.
 pub const ROOM: usize = SLOTS * SIZE;
 
 // What a save answers: a refusal number, or 0 and the slot that was taken.
@@ -29,13 +31,7 @@ pub struct Fetched {
     pub state: State,
 }
 
-// What is to be done to the records: one is written; past the last, none.
-struct Change {
-    number: u8,
-    at: usize,
-    slot: Slot,
-}
-
+// What a save is to answer, and to do to the records: one is written; past the last, none.
 struct Taking {
     answer: Saved,
     at: usize,
@@ -49,82 +45,24 @@ fn lent(count: usize, room: usize) -> bool
     if count == SLOTS { room == ROOM } else { false }
 }
 
-fn refused(number: u8, count: usize) -> Change
-    ensures { λ r. ⌜ r ≡ ByValue.refused number count ⌝ }
-{
-    Change {
-        number,
-        at: count,
-        slot: Slot { users: 0, frame: 0 },
-    }
-}
-
 fn holding(r: Records, room: usize, slot: u32) -> Change
-    ensures { λ q. ⌜ q ≡ ByValue.change (r .count) (Shelf.judged (r .count) room Shelf.refuse (Shelf.holdLent (r .slots) slot)) ⌝ }
+    ensures { λ q. ⌜ q ≡ Decided.change (r .count) (Shelf.judged (r .count) room Users.refuse (Users.holdLent (r .slots) slot)) ⌝ }
 {
     if !lent(r.count, room) {
-        return refused(12, r.count);
+        return slot_users::refused(12, r.count);
     }
-    if 15 < slot {
-        return refused(13, r.count);
-    }
-    let k = slot as usize;
-    let s = r.slots[k];
-    if s.users == 0 {
-        return refused(13, r.count);
-    }
-    if s.users == 255 {
-        return refused(14, r.count);
-    }
-    let more = Slot {
-        users: s.users + 1,
-        frame: s.frame,
-    };
-    Change {
-        number: 0,
-        at: k,
-        slot: more,
-    }
+    let slots = r.slots;
+    slot_users::holding(slots, slot)
 }
 
 fn letting_go(r: Records, room: usize, slot: u32) -> Change
-    ensures { λ q. ⌜ q ≡ ByValue.change (r .count) (Shelf.judged (r .count) room Shelf.refuse (Shelf.letGoLent (r .slots) slot)) ⌝ }
+    ensures { λ q. ⌜ q ≡ Decided.change (r .count) (Shelf.judged (r .count) room Users.refuse (Users.letGoLent (r .slots) slot)) ⌝ }
 {
     if !lent(r.count, room) {
-        return refused(12, r.count);
+        return slot_users::refused(12, r.count);
     }
-    if 15 < slot {
-        return refused(13, r.count);
-    }
-    let k = slot as usize;
-    let s = r.slots[k];
-    if s.users == 0 {
-        return refused(13, r.count);
-    }
-    let fewer = Slot {
-        users: s.users - 1,
-        frame: s.frame,
-    };
-    Change {
-        number: 0,
-        at: k,
-        slot: fewer,
-    }
-}
-
-// The lowest slot without users, or 16.
-fn free(slots: [Slot; 16]) -> usize
-    ensures { λ r. ⌜ r ≡ Shelf.free slots ⌝ }
-{
-    let mut k = 0;
-    while k < SLOTS {
-        let s = slots[k];
-        if s.users == 0 {
-            return k;
-        }
-        k += 1;
-    }
-    k
+    let slots = r.slots;
+    slot_users::letting_go(slots, slot)
 }
 
 // Slot k's image is written.
@@ -158,13 +96,13 @@ fn not_taken(number: u8, count: usize) -> Taking
 }
 
 fn saving(r: Records, images: &mut [u8], state: State, frame: u32) -> Taking
-    ensures { λ q. ⌜ (q ≡ ByValue.taking (r .count) (Shelf.judged (r .count) (length (now (images .entry))) Shelf.refuse (Shelf.saveLent (r .slots) state frame))) × (now (images .exit) ≡ Shelf.imagesAfter (Shelf.judged (r .count) (length (now (images .entry))) Shelf.refuse (Shelf.saveLent (r .slots) state frame)) (Image.image state) (now (images .entry))) ⌝ }
+    ensures { λ q. ⌜ (q ≡ ByValue.taking (r .count) (Shelf.judged (r .count) (length (now (images .entry))) Users.refuse (Shelf.saveLent (r .slots) state frame))) × (now (images .exit) ≡ Shelf.imagesAfter (Shelf.judged (r .count) (length (now (images .entry))) Users.refuse (Shelf.saveLent (r .slots) state frame)) (Image.image state) (now (images .entry))) ⌝ }
 {
     if !lent(r.count, images.len()) {
         return not_taken(12, r.count);
     }
     let slots = r.slots;
-    let k = free(slots);
+    let k = slot_users::free(slots);
     if SLOTS <= k {
         return not_taken(14, r.count);
     }
@@ -197,14 +135,11 @@ fn fetching(r: Records, images: &[u8], slot: u32) -> Fetched
     if !lent(r.count, images.len()) {
         return not_fetched(12);
     }
-    if 15 < slot {
+    let slots = r.slots;
+    if !slot_users::held(slots, slot) {
         return not_fetched(13);
     }
     let k = slot as usize;
-    let held = r.slots[k];
-    if held.users == 0 {
-        return not_fetched(13);
-    }
     let state = load(images, k);
     if !state::obeys(state) {
         return not_fetched(5);

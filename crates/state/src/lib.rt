@@ -106,7 +106,7 @@ pub fn fault(number: u8, words: &[i16], bytes: &[u8]) -> Fault
     ensures { λ r. ⌜ r ≡ fault number (now (words .entry)) (now (bytes .entry)) ⌝ }
 {
     if number == 4 {
-        return tables::first_fault(words, bytes);
+        return rules::first_fault(words, bytes);
     }
     Fault { rule: 0, place: 0 }
 }
@@ -152,7 +152,7 @@ fn initial(words: &[i16], bytes: &[u8], mark: u8) -> State
 fn started(words: &[i16], bytes: &[u8], mark: u8) -> Returned
     ensures { λ r. ⌜ r ≡ started (now (words .entry)) (now (bytes .entry)) mark ⌝ }
 {
-    let number = tables::check(words, bytes);
+    let number = rules::check(words, bytes);
     if number != 0 {
         let told = fault(number, words, bytes);
         return Returned {

@@ -17,9 +17,9 @@ use Rattle.half.specs.declared.Core.{Core}
 use Rattle.half.specs.declared.Half.{Half}
 use Rattle.half.specs.Core as Spec
 use Rattle.half.specs.Depends as Depends
-use Rattle.frame.specs.declared.Decoded.{Decoded}
-use Rattle.frame.specs.Frame as Frame
-use Rattle.frame.specs.Depends.{AfterTwo}
+use Rattle.observation.specs.declared.Decoded.{Decoded}
+use Rattle.observation.specs.Frame as Frame
+use Rattle.observation.specs.Depends.{AfterTwo}
 use Rattle.sure.specs.Sure.{holds, through, after}
 use Rattle.sure.specs.Again.{Agreed}
 use Rattle.sure.specs.AgainHalf.{afterFirst, afterBoth, HalfAgain, first-long, second-long, left-long, half-again}

@@ -1,2 +1,1 @@
 mod Flipped
-mod Rules

@@ -6,7 +6,7 @@ use lib.Dec.{ltb, eqb}
 use lib.IntN.{ℤ}
 use lib.ListN.{getD, set}
 use Rattle.half.specs.declared.Clipped.{Clipped}
-use Rattle.frame.specs.declared.Subframe.{Subframe}
+use Rattle.observation.specs.declared.Subframe.{Subframe}
 use Rattle.tally.specs.declared.Clippings.{Clippings}
 use Rattle.tally.specs.declared.Subframes.{Subframes}
 use Rattle.tally.specs.declared.Tally.{Tally}

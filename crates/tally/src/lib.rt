@@ -4,8 +4,8 @@ ghost use mathlib.Core.Path.{_≡_};
 ghost use mathlib.Core.List.{[]};
 ghost use Rattle.tally.specs.Figures as Figures;
 ghost use Rattle.tally.specs.Carried as Carried;
-use frame::Subframe;
 use half::Clipped;
+use observation::Subframe;
 
 // Reading stops at so many lines, those that no figure has among them.
 const LIMIT: u64 = 4294967295;

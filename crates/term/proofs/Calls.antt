@@ -12,8 +12,8 @@ use Rattle.calls.specs.Celp.{decode}
 use Rattle.calls.specs.Run.{heard, missed, step}
 use Rattle.tally.specs.declared.Tally.{Tally}
 use Rattle.tally.specs.Carried.{countedAll, addedAll, numbered, withFrame, withOutcome}
-use Rattle.term.specs.Term.{answered, outcome}
-use Rattle.term.specs.Steps.{place, called}
+use Rattle.term_steps.specs.Term.{answered, outcome}
+use Rattle.term_steps.specs.Steps.{place, called}
 
 module _ (words : List ℤ) (bytes : List ℕ) (s : State) (t : Tally) where
   module _ (payload : List ℕ) where

@@ -8,35 +8,16 @@ ghost use Rattle.stream.specs.Machine.{fedAll};
 ghost use Rattle.calls.specs.Run.{heard};
 ghost use Rattle.hex.specs.Held as Held;
 ghost use Rattle.heard.specs.Start as Start;
-ghost use Rattle.hex.specs.File as File;
+ghost use Rattle.table_file.specs.File as File;
 ghost use Rattle.tally.specs.Figures as Figures;
-ghost use Rattle.term.specs.Steps as Steps;
-ghost use Rattle.term.specs.Feed as Feed;
+ghost use Rattle.term_steps.specs.Steps as Steps;
+ghost use Rattle.term_steps.specs.Feed as Feed;
 use hex::Line;
 use state::State;
 use tally::Tally;
-
-// Where the input stands between two lines: whether a recording's first line is to come, the decoder's state, and the tally.
-pub struct Place {
-    pub first: bool,
-    pub state: State,
-    pub tally: Tally,
-}
-
-// Where it stands in a line.
-pub struct Recorder {
-    pub first: bool,
-    pub state: State,
-    pub line: Line,
-    pub tally: Tally,
-}
-
-// The start: the table file's refusal number, how long its text is, and where the input stands.
-pub struct Started {
-    pub recorder: Recorder,
-    pub number: u8,
-    pub n: usize,
-}
+use term_steps::Place;
+use term_steps::Recorder;
+use term_steps::Started;
 
 // A frame's call, counted.
 fn hear(words: &[i16], bytes: &[u8], state: State, payload: [u8; 20], tally: Tally) -> Place

@@ -13,7 +13,7 @@ use Rattle.sequence.specs.Table.{length-table, getD-table}
 use Rattle.tables.specs.Places.{WORDS}
 use Rattle.tables.specs.Tables.{word}
 use Rattle.spectral.specs.Kept.{Words16}
-use Rattle.hex.specs.File as File
+use Rattle.table_file.specs.File as File
 
 signed-16 : (n : ℕ) → mag (File.signed n) < 32768
 unfolding File.signed

@@ -7,7 +7,7 @@ use native.Mathlib.Omega.{arith}
 use lib.IntN.{ℤ}
 use lib.ListN.{length, getD, length-append}
 use Rattle.sequence.specs.Table.{table, getD-table}
-use Rattle.frame.specs.declared.Subframe.{Subframe}
+use Rattle.observation.specs.declared.Subframe.{Subframe}
 use Rattle.state.specs.declared.State.{State}
 use Rattle.state.specs.State.{reset, coldStart}
 use Rattle.heard.specs.Recording.{event, lineStep, isStart, opening}
@@ -15,8 +15,8 @@ use Rattle.tally.specs.declared.Subframes.{Subframes}
 use Rattle.tally.specs.declared.Tally.{Tally}
 use Rattle.tally.specs.Figures.{Outcome, howMany, largest, smallest, codeGain, spread, subframesOf, clippedOf, tally}
 use Rattle.tally.specs.Added.{BothClippings, many-append, largest-append, smallest-append, clippings-append, subframes-append, clipped-append}
-use Rattle.term.specs.Term.{isEnd, recordings, outcome, outcomesFrom, outcomesOf, joined, outcomes, tallyOf}
-use Rattle.term.specs.Steps.{walk, all-walked}
+use Rattle.term_steps.specs.Term.{isEnd, recordings, outcome, outcomesFrom, outcomesOf, joined, outcomes, tallyOf}
+use Rattle.term_steps.specs.Steps.{walk, all-walked}
 
 -- counts of both, place by place
 abbrev pub Added : ℕ → List ℕ → List ℕ → List ℕ → Type 0

@@ -22,8 +22,8 @@ use Rattle.pitch.specs.Lags.{sane-integer}
 use Rattle.spectral.specs.Kept.{Words16}
 use Rattle.half.specs.declared.SubframeTrace.{SubframeTrace}
 use Rattle.half.specs.Kept.{lags-kept, indexes-kept, classes-kept}
-use Rattle.frame.specs.declared.Subframe.{Subframe}
-use Rattle.frame.specs.Frame as Frame
+use Rattle.observation.specs.declared.Subframe.{Subframe}
+use Rattle.observation.specs.Frame as Frame
 use Rattle.state.specs.declared.State.{State}
 use Rattle.state.specs.State as State
 use Rattle.calls.specs.Celp as Celp
@@ -33,7 +33,7 @@ use Rattle.calls.specs.Run.{heard, missed, run}
 use Rattle.hex.specs.Text as Text
 use Rattle.heard.specs.Recording.{event, lineStep, isStart, opening}
 use Rattle.tally.specs.Figures.{Outcome, those, howMany, class, gainIndex, lagOf, subframesOf, answeredWith}
-use Rattle.term.specs.Term.{recordings, answered, outcome, outcomesFrom, outcomesOf, joined, outcomes}
+use Rattle.term_steps.specs.Term.{recordings, answered, outcome, outcomesFrom, outcomesOf, joined, outcomes}
 use Rattle.term_laws.specs.Whole.{whole-back}
 use Rattle.term_laws.specs.Sums.{inRange}
 

@@ -11,14 +11,14 @@ use Rattle.sequence.specs.All.{all, and-left, and-right}
 use Rattle.sequence.specs.Table.{table, table-same}
 use Rattle.tables.specs.Tables.{check}
 use Rattle.spectral.specs.Kept.{Words16}
-use Rattle.frame.specs.declared.Subframe.{Subframe}
+use Rattle.observation.specs.declared.Subframe.{Subframe}
 use Rattle.state.specs.declared.State.{State}
 use Rattle.state.specs.State.{reset, coldStart}
 use Rattle.hex.specs.Text.{isOnly}
 use Rattle.heard.specs.Recording.{event, lineStep, isStart}
 use Rattle.tally.specs.Figures.{howMany, class, gainIndex, spread, tally}
-use Rattle.term.specs.Term.{isEnd, outcome, outcomes, tallyOf}
-use Rattle.term.specs.Steps.{walk, all-walked}
+use Rattle.term_steps.specs.Term.{isEnd, outcome, outcomes, tallyOf}
+use Rattle.term_steps.specs.Steps.{walk, all-walked}
 use Rattle.term_laws.specs.Sums.{sum, inRange, counts-sum}
 use Rattle.term_laws.specs.Outcomes.{placed, lagIn, outcomes-proper, numbers-sum, four-each, all-placed}
 

@@ -7,7 +7,7 @@ ghost use Rattle.heard.specs.Start as Start;
 use tally::Clippings;
 use tally::Subframes;
 use tally::Tally;
-use term::Recorder;
+use term_steps::Recorder;
 
 fn near(recorder: Recorder) -> Recorder {
     let state = recorder.state;

@@ -2,10 +2,10 @@
 // tables.bin lies beside it, the recording comes on standard input, and the state that it starts in, decode's, is said first.
 // A line `digest NAME` begins another recording, with the table file of that name, and from there on 32 bits stand for each part.
 use calls::Answer;
-use frame::Subframe;
 use half::Clipped;
 use hex::Line;
 use libc::STDOUT_FILENO;
+use observation::Subframe;
 use questions::size;
 use questions::wide_word;
 use state::State;
@@ -178,7 +178,7 @@ fn read_tables(name: &[u8], words: &mut [i16; 5963], bytes: &mut [u8; 3908]) -> 
     let got = pipe::read_file(name, &mut file);
     let n = got.n;
     put_bytes(&file, bytes);
-    hex::check_file(&file[..n], words)
+    table_file::check_file(&file[..n], words)
 }
 
 fn begins(s: &[u8], with: &[u8]) -> bool {

@@ -1,7 +1,7 @@
 -- The shift is the division by a power of two.
 use borrow.Author.Needs.{needs}
 use mathlib.Core.Path.{refl}
-use Rattle.codebook.specs.Codebook as Codebook
+use Rattle.code_index.specs.Codebook as Codebook
 use Rattle.codebook.proofs.added.Statement.{statement}
 use Rattle.codebook.proofs.added.Tie as tie
 

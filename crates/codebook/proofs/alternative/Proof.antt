@@ -5,7 +5,7 @@ use Prim.Native.Nat.{_+_, _*_, _%_}
 use mathlib.Core.Path.{ap, _∙_}
 use mathlib.Core.List.{List}
 use lib.IntN.{ℤ}
-use Rattle.codebook.specs.Codebook as Codebook
+use Rattle.code_index.specs.Codebook as Codebook
 use Rattle.codebook.proofs.alternative.Statement.{statement}
 use Rattle.codebook.proofs.alternative.Tie as tie
 

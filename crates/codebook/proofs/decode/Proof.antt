@@ -7,10 +7,10 @@ use mathlib.Core.Bool.{true}
 use mathlib.Core.Path.{_≡_, ap, _∙_}
 use mathlib.Core.List.{List}
 use lib.IntN.{ℤ}
-use Rattle.codebook.specs.declared.Classified.{Classified}
-use Rattle.codebook.specs.declared.Innovation.{Innovation}
-use Rattle.codebook.specs.Codebook as Codebook
-use Rattle.codebook.specs.Ranges.{class-below, slots-fit}
+use Rattle.code_index.specs.declared.Classified.{Classified}
+use Rattle.code_index.specs.declared.Innovation.{Innovation}
+use Rattle.code_index.specs.Codebook as Codebook
+use Rattle.code_index.specs.Ranges.{class-below, slots-fit}
 use Rattle.codebook.proofs.decode.Statement.{statement}
 use Rattle.codebook.proofs.decode.Tie as tie
 

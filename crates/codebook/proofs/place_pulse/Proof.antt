@@ -11,7 +11,7 @@ use mir.Syntax.{w16}
 use mir.Val.{toZ, ofZ}
 use mir.ValLaws.{toZ-ofZ}
 use Rattle.fixed.specs.Machine.{back}
-use Rattle.codebook.specs.Codebook as Codebook
+use Rattle.code_index.specs.Codebook as Codebook
 use Rattle.codebook.proofs.place_pulse.Statement.{statement}
 use Rattle.codebook.proofs.place_pulse.Tie as tie
 

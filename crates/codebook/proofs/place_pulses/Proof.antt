@@ -10,7 +10,7 @@ use Rattle.sequence.specs.Repeated.{repeated, repeated-again, repeated-end}
 use Rattle.fixed.specs.Machine.{back}
 use Rattle.tables.specs.Tables as Tables
 use Rattle.tables.specs.SoundWords.{entry-at}
-use Rattle.codebook.specs.Codebook as Codebook
+use Rattle.code_index.specs.Codebook as Codebook
 use Rattle.codebook.proofs.place_pulses.Statement.{statement}
 use Rattle.codebook.proofs.place_pulses.Tie as tie
 

@@ -10,7 +10,7 @@ use mir.Syntax.{w16}
 use mir.Val.{toZ, ofZ}
 use Rattle.sequence.specs.Rewritten.{rewritten, rewritten-again, rewritten-end}
 use Rattle.fixed.specs.Machine.{back}
-use Rattle.codebook.specs.Codebook as Codebook
+use Rattle.code_index.specs.Codebook as Codebook
 use Rattle.codebook.proofs.place_shape.Statement.{statement}
 use Rattle.codebook.proofs.place_shape.Tie as tie
 

@@ -11,8 +11,8 @@ use mir.Val.{toZ, ofZ}
 use Rattle.sequence.specs.Repeated.{repeated, repeated-again, repeated-end}
 use Rattle.fixed.specs.Machine.{back}
 use Rattle.tables.specs.SoundWords.{pulses-within}
-use Rattle.codebook.specs.Codebook as Codebook
-use Rattle.codebook.specs.Ranges.{slot-fits}
+use Rattle.code_index.specs.Codebook as Codebook
+use Rattle.code_index.specs.Ranges.{slot-fits}
 use Rattle.codebook.proofs.place_shapes.Statement.{statement}
 use Rattle.codebook.proofs.place_shapes.Tie as tie
 

@@ -11,8 +11,8 @@ use mir.Syntax.{w16}
 use mir.Val.{toZ, ofZ}
 use mir.ValLaws.{toZ-ofZ}
 use Rattle.tables.specs.Tables as Tables
-use Rattle.codebook.specs.Codebook as Codebook
-use Rattle.codebook.specs.Ranges.{slot-is, position-in-range, shape-in-range}
+use Rattle.code_index.specs.Codebook as Codebook
+use Rattle.code_index.specs.Ranges.{slot-is, position-in-range, shape-in-range}
 use Rattle.codebook.proofs.place_slot.Statement.{statement}
 use Rattle.codebook.proofs.place_slot.Tie as tie
 

@@ -8,7 +8,7 @@ use mir.Val.{SFits}
 use mir.ValLaws.{toZ-ofZ}
 use Rattle.fixed.specs.Abs.{abs-add, abs-sub}
 use Rattle.fixed.specs.Machine.{back, widens, widened, sfits-abs, abs-sfits}
-use Rattle.codebook.specs.Codebook as Codebook
+use Rattle.code_index.specs.Codebook as Codebook
 use Rattle.codebook.proofs.sum.Statement.{statement}
 use Rattle.codebook.proofs.sum.Tie as tie
 

@@ -8,10 +8,10 @@ use lib.IntN.{ℤ}
 use lib.ListN.{length, take, drop, length-drop, take-append-drop}
 use lib.Seq.{take-all}
 use borrow.Rule.Slice.PartMut.{putMid}
-use Rattle.postfilter.specs.declared.OutputFilter.{OutputFilter}
-use Rattle.postfilter.specs.declared.Filtered.{Filtered}
-use Rattle.postfilter.specs.Postfilter as Postfilter
-use Rattle.postfilter.specs.Blocks.{after-joined, outputs-joined}
+use Rattle.output_filter.specs.declared.OutputFilter.{OutputFilter}
+use Rattle.output_filter.specs.declared.Filtered.{Filtered}
+use Rattle.output_filter.specs.Postfilter as Postfilter
+use Rattle.output_filter.specs.Blocks.{after-joined, outputs-joined}
 use Rattle.half.specs.declared.Filtered as Both
 use Rattle.half.specs.Core as Spec
 use Rattle.core.proofs.Joined.{eighty, joined, lent}

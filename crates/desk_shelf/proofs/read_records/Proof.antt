@@ -4,7 +4,7 @@ use mathlib.Core.Path.{_≡_, refl, _∙_}
 use lib.ListN.{length, replicate}
 use Rattle.sequence.specs.Table.{Written, written-none, written-more, written-end}
 use Rattle.slots.specs.Slots.{noSlot}
-use Rattle.shelf.specs.Shelf.{SLOTS}
+use Rattle.slot_users.specs.Users.{SLOTS}
 use Rattle.desk_shelf.specs.Records.{RECORDS, recordAt}
 use Rattle.desk_shelf.proofs.Outcomes.{all-read}
 use borrow.Author.Needs.{needs}

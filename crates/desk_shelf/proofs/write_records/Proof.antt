@@ -2,7 +2,7 @@
 use Prim.Native.Nat.{_-_}
 use mathlib.Core.Path.{_≡_, refl}
 use lib.ListN.{length}
-use Rattle.shelf.specs.Shelf.{SLOTS}
+use Rattle.slot_users.specs.Users.{SLOTS}
 use Rattle.desk_shelf.specs.Records.{RECORDS}
 use Rattle.desk_shelf.proofs.Outcomes.{Stored, stored-none, stored-more, stored-end}
 use borrow.Author.Needs.{needs}

@@ -1,6 +1,6 @@
 -- What is reported has its names.
 use borrow.Author.Needs.{needs}
-use Rattle.frame.specs.Frame.{decode, halves}
+use Rattle.observation.specs.Frame.{decode, halves}
 use Rattle.frame.proofs.Named.{named}
 use Rattle.frame.proofs.decode.Statement.{statement}
 use Rattle.frame.proofs.decode.Tie as tie

@@ -1,7 +1,7 @@
 -- The four tests are those of the definition, in its order.
 use borrow.Author.Needs.{needs}
 use borrow.Author.Tests.{not-true, not-false}
-use Rattle.frame.specs.Frame.{halfFits, digitsFit}
+use Rattle.observation.specs.Frame.{halfFits, digitsFit}
 use Rattle.frame.proofs.digits_fit.Statement.{statement}
 use Rattle.frame.proofs.digits_fit.Tie as tie
 

@@ -1,9 +1,9 @@
 -- The parts that the calls give are the definition's.
 use borrow.Author.Needs.{needs}
 use denote.Ref.{now}
-use Rattle.codebook.specs.Codebook as Codebook
+use Rattle.code_index.specs.Codebook as Codebook
 use Rattle.sequence.specs.All.{and-left, and-right}
-use Rattle.frame.specs.Frame.{halfFits, half, halfSamples}
+use Rattle.observation.specs.Frame.{halfFits, half, halfSamples}
 use Rattle.frame.proofs.half.Statement.{statement}
 use Rattle.frame.proofs.half.Tie as tie
 

@@ -3,8 +3,8 @@ use borrow.Author.Needs.{needs}
 use denote.Ref.{now}
 use mathlib.Core.Path.{sym, _∙_}
 use Rattle.sequence.specs.All.{and-left, and-right}
-use Rattle.frame.specs.Frame.{halfFits, digitsFit, halves, samples}
-use Rattle.frame.proofs.Parts.{first-part, second-part, both-parts}
+use Rattle.observation.specs.Frame.{halfFits, digitsFit, halves, samples}
+use Rattle.observation.specs.Parts.{first-part, second-part, both-parts}
 use Rattle.frame.proofs.halves.Statement.{statement}
 use Rattle.frame.proofs.halves.Tie as tie
 

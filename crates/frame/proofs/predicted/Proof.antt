@@ -1,7 +1,7 @@
 -- No quantised frequency is negative, whatever was predicted.
 use borrow.Author.Needs.{needs}
 use Rattle.spectral.specs.Quantised.{lsf-range}
-use Rattle.frame.specs.Frame.{predicted}
+use Rattle.observation.specs.Frame.{predicted}
 use Rattle.frame.proofs.predicted.Statement.{statement}
 use Rattle.frame.proofs.predicted.Tie as tie
 

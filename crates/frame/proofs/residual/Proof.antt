@@ -1,6 +1,6 @@
 -- The fields are within their widths.
 use borrow.Author.Needs.{needs}
-use Rattle.frame.specs.Frame.{residual}
+use Rattle.observation.specs.Frame.{residual}
 use Rattle.frame.proofs.residual.Statement.{statement}
 use Rattle.frame.proofs.residual.Tie as tie
 

@@ -4,7 +4,7 @@ use mathlib.Core.Path.{_≡_, refl, sym, _∙_}
 use native.Mathlib.Omega.{arith}
 use Rattle.stream.specs.Room.{over-none, over-counts}
 use Rattle.state.specs.State.{fault}
-use Rattle.hex.specs.File.{words, bytes, checkFile, long-file, long-words, accepted-long, accepted-words}
+use Rattle.table_file.specs.File.{words, bytes, checkFile, long-file, long-words, accepted-long, accepted-words}
 use Rattle.hex.specs.Lengths.{tables-refused-long}
 use Rattle.heard.specs.Recording.{tablesText}
 use Rattle.heard.specs.Start.{started-refused, started-ready, part-bytes}

@@ -1,7 +1,7 @@
 -- By the number: what is named is the set's first fault, or nothing.
 use borrow.Author.Needs.{needs}
 use native.Mathlib.Omega.{arith}
-use Rattle.hex.specs.File.{file-number-small}
+use Rattle.table_file.specs.File.{file-number-small}
 use Rattle.heard.proofs.Refused.{lengths, named, unnamed}
 use Rattle.heard.proofs.refuse.Statement.{statement}
 use Rattle.heard.proofs.refuse.Tie as tie

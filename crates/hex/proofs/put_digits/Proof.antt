@@ -2,7 +2,7 @@
 use borrow.Author.Needs.{needs}
 use lib.ListN.{length-set}
 use Rattle.hex.specs.Text.{fourDigits}
-use Rattle.hex.proofs.Stores.{four-stores}
+use Rattle.hex.specs.Stores.{four-stores}
 use native.Mathlib.Omega.{arith}
 use Rattle.hex.proofs.put_digits.Statement.{statement}
 use Rattle.hex.proofs.put_digits.Tie as tie

@@ -3,7 +3,7 @@ use borrow.Author.Needs.{needs}
 use mathlib.Core.Path.{refl}
 use lib.ListN.{length-set}
 use Rattle.hex.specs.Text.{sampleText}
-use Rattle.hex.proofs.Stores.{frame-stores, frame-same}
+use Rattle.hex.specs.Stores.{frame-stores, frame-same}
 use native.Mathlib.Omega.{arith}
 use Rattle.hex.proofs.put_frame.Statement.{statement}
 use Rattle.hex.proofs.put_frame.Tie as tie

@@ -3,7 +3,7 @@ use borrow.Author.Needs.{needs}
 use Prim.Native.Nat.{_-_}
 use mathlib.Core.Path.{_∙_}
 use lib.ListN.{length}
-use Rattle.hex.proofs.Stores.{stored, stored-none, stored-more, stored-end}
+use Rattle.hex.specs.Stores.{stored, stored-none, stored-more, stored-end}
 use native.Mathlib.Omega.{arith}
 use Rattle.hex.proofs.put_samples.Statement.{statement}
 use Rattle.hex.proofs.put_samples.Tie as tie

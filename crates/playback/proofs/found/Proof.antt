@@ -1,11 +1,11 @@
 -- The best save, the start, or neither.
 use Rattle.playback.proofs.Steps.{found-save, found-frame, found-none}
-use Rattle.playback.specs.Turns.{shelf}
+use Rattle.replies.specs.Promised.{shelf}
 use Rattle.seek.specs.declared.Sought.{Sought}
 use Rattle.state.specs.declared.State.{State}
 use mathlib.Core.Path.{sym, ap, _∙_}
 use Prim.Native.Nat.{_<_, _≤_}
-use Rattle.shelf.specs.Shelf.{SLOTS}
+use Rattle.slot_users.specs.Users.{SLOTS}
 use Rattle.seek.specs.Best.{best}
 use native.Mathlib.Omega.{arith}
 use borrow.Author.Needs.{needs}

@@ -1,6 +1,6 @@
 -- A frame where one is left to play, and the input where none is.
 use Rattle.playback.proofs.Steps.{ahead-some, took-frame, took-input}
-use Rattle.hex.specs.File as File
+use Rattle.table_file.specs.File as File
 use mathlib.Core.Path.{sym, _∙_}
 use native.Mathlib.Omega.{arith}
 use Rattle.stream.specs.Room.{over-counts}

@@ -12,7 +12,7 @@ use Rattle.fixed.specs.Abs.{abs-neg, abs-mul-le, minus-is}
 use Rattle.fixed.specs.Wrap.{wrap-id}
 use Rattle.fixed.specs.Bounds.{abs-shift}
 use Rattle.fixed.specs.Machine.{back, sfits-abs, abs-sfits, shr-sfits, widens, widened}
-use Rattle.postfilter.specs.Postfilter as Postfilter
+use Rattle.output_filter.specs.Postfilter as Postfilter
 use Rattle.postfilter.proofs.back.Statement.{statement}
 use Rattle.postfilter.proofs.back.Tie as tie
 

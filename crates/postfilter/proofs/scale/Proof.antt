@@ -1,15 +1,16 @@
 -- What is done by place n: Mapped of sequence.
 use borrow.Author.Needs.{needs}
 use native.Mathlib.Omega.{arith}
-use mathlib.Core.Path.{_≡_, _∙_}
+use mathlib.Core.Path.{_≡_, sym, _∙_, ap}
 use Prim.Native.Nat.{_-_}
 use lib.IntN.{pos}
 use lib.ListN.{length, getD}
-use mir.Syntax.{w16}
+use mir.Syntax.{w16, w32}
 use mir.Val.{toZ, ofZ}
 use Rattle.sequence.specs.Mapped.{Mapped, mapped-none, mapped-more, mapped-end}
-use Rattle.fixed.specs.Machine.{back}
-use Rattle.postfilter.specs.Postfilter.{scaled}
+use Rattle.fixed.specs.Machine.{back, abs-sfits}
+use Rattle.output_filter.specs.Postfilter.{scaled}
+use Rattle.output_filter.specs.Sections.{short, scaled-is}
 use Rattle.postfilter.proofs.scale.Statement.{statement}
 use Rattle.postfilter.proofs.scale.Tie as tie
 
@@ -22,14 +23,17 @@ abbrev μ-loop : tie.MeasureT-loop
 loop-holds : tie.Need-loop-holds Inv-loop μ-loop
 loop-holds c = mapped-none scaled (c .args .block .now)
 
-mul-scaled : tie.Need-mul-scaled Inv-loop μ-loop
-mul-scaled c = search needs
+mul-scaled-by : tie.Need-mul-scaled-by Inv-loop μ-loop
+mul-scaled-by c = search needs
 
-slice-copy-out-scaled : tie.Need-slice-copy-out-scaled Inv-loop μ-loop
-slice-copy-out-scaled c = search needs
+slice-copy-out-scaled-by : tie.Need-slice-copy-out-scaled-by Inv-loop μ-loop
+slice-copy-out-scaled-by c = search needs
 
-scaled-requires : tie.Need-scaled-requires Inv-loop μ-loop
-scaled-requires c κs = search needs
+scaled-by-requires : tie.Need-scaled-by-requires Inv-loop μ-loop
+scaled-by-requires c κs = search needs
+
+short-requires : tie.Need-short-requires Inv-loop μ-loop
+short-requires c κs = search needs
 
 mul-y : tie.Need-mul-y Inv-loop μ-loop
 mul-y c = search needs
@@ -45,11 +49,16 @@ loop-less c = search needs
 
 loop-again : tie.Need-loop-again Inv-loop μ-loop
 loop-again c =
-    let l = c .before .before .before in
+    let f = c .before in
+    let l = f .before .before .before in
     let b = l .loop .block in
     let n = l .loop .n in
-    let e : toZ w16 (ofZ w16 (c .scaled .result)) ≡ scaled (getD b n (pos 0)) =
-    back w16 (c .scaled .result) (c .scaled .ok) ∙ simp (back w16 (getD b n (pos 0)) (c .before .scaled-arg .given)) at (c .scaled .ensures) in
+    let x = getD b n (pos 0) in
+    let e : toZ w16 (ofZ w16 (c .short .result)) ≡ scaled x =
+    back w16 (c .short .result) (c .short .ok)
+    ∙ simp (back w32 (f .scaled-by .result) (f .scaled-by .ok)) at (c .short .ensures)
+    ∙ ap short (simp (back w16 x (f .before .scaled-by-arg .given)) at (f .scaled-by .ensures))
+    ∙ sym (scaled-is x (abs-sfits w16 x (record { sfits = f .before .scaled-by-arg .given }))) in
     mapped-more scaled (l .before .args .block .now) b n (pos 0) _ (l .loop .inv) (omega arith) e
 
 same-length : tie.Need-same-length Inv-loop μ-loop
@@ -67,9 +76,10 @@ scale-spec =
     Inv-loop
     μ-loop
     loop-holds
-    mul-scaled
-    slice-copy-out-scaled
-    scaled-requires
+    mul-scaled-by
+    slice-copy-out-scaled-by
+    scaled-by-requires
+    short-requires
     mul-y
     slice-set-from-y
     add-n

@@ -1,7 +1,7 @@
 use borrow.Author.Needs.{needs}
 use mir.Syntax.{w16}
 use Rattle.fixed.specs.Machine.{back}
-use Rattle.postfilter.specs.Postfilter as Postfilter
+use Rattle.output_filter.specs.Postfilter as Postfilter
 use Rattle.postfilter.proofs.taps_of.Statement.{statement}
 use Rattle.postfilter.proofs.taps_of.Tie as tie
 

@@ -6,8 +6,8 @@ use lib.ListN.{take}
 use lib.Seq.{length-take-le}
 use Rattle.stream.specs.Reads.{answer-end, answer-chunk}
 use Rattle.stream.specs.Room.{over-none, counts}
-use Rattle.repair.specs.declared.Ended.{Ended}
-use Rattle.repair.specs.Look.{ended}
+use Rattle.mending.specs.declared.Ended.{Ended}
+use Rattle.mending.specs.Look.{ended}
 use Rattle.repair.specs.Feed.{standing, fed, written, entered, ending, lastEntered, answered, fedChunk}
 use Rattle.repair.proofs.Turns.{none-open, end-gives, text-long, entry-long}
 use borrow.Author.Needs.{needs}

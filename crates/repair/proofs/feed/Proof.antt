@@ -7,8 +7,8 @@ use lib.ListN.{length, take, length-take, length-drop}
 use lib.Seq.{length-take-le}
 use Rattle.stream.specs.Machine.{streamed-none, streamed-more, streamed-quiet, streamed-end}
 use Rattle.stream.specs.Room.{tail-back, counts}
-use Rattle.repair.specs.declared.Ended.{Ended}
-use Rattle.repair.specs.Look.{ended}
+use Rattle.mending.specs.declared.Ended.{Ended}
+use Rattle.mending.specs.Look.{ended}
 use Rattle.repair.specs.Feed.{Standing, fed, written, entered, fedChunk}
 use borrow.Author.Needs.{needs}
 use Rattle.repair.proofs.Turns.{stands, credit, free, Fills, fits, newline-gives, other-gives, told-most, text-long, entry-long, push-long, push-paid}

@@ -4,7 +4,7 @@ use Prim.Native.Nat.{_≤_, _-_}
 use mathlib.Core.Path.{_≡_, refl, sym, ap, _∙_}
 use native.Mathlib.Numerals.{add-one}
 use native.Mathlib.Omega.{arith}
-use Rattle.shelf.specs.Shelf.{SLOTS, slotAt}
+use Rattle.slot_users.specs.Users.{SLOTS, slotAt}
 use Rattle.seek.specs.Best.{better, bestOf, best}
 use Rattle.seek.specs.declared.Save.{Save}
 use Rattle.seek.proofs.best.Statement.{statement}

@@ -4,7 +4,8 @@ use mathlib.Core.Path.{_≡_, ap, _∙_}
 use native.Mathlib.Omega.{arith}
 use borrow.Author.Needs.{needs}
 use lib.ListN.{length}
-use Rattle.shelf.specs.Shelf.{SLOTS, slotAt, fetch}
+use Rattle.slot_users.specs.Users.{SLOTS, slotAt}
+use Rattle.shelf.specs.Shelf.{fetch}
 use Rattle.forward.specs.Forward.{forward}
 use Rattle.seek.specs.Best.{best}
 use Rattle.seek.proofs.Steps.{broken, goes}

@@ -1,5 +1,6 @@
 use lib.ListN.{length}
-use Rattle.shelf.specs.Shelf.{hold, holdLent}
+use Rattle.slot_users.specs.Users.{holdLent}
+use Rattle.shelf.specs.Shelf.{hold}
 use Rattle.shelf.proofs.Bridge.{done-by}
 use borrow.Author.Needs.{needs}
 use Rattle.shelf.proofs.hold_by_value.Statement.{statement}

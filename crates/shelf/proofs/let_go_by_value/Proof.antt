@@ -1,5 +1,6 @@
 use lib.ListN.{length}
-use Rattle.shelf.specs.Shelf.{letGo, letGoLent}
+use Rattle.slot_users.specs.Users.{letGoLent}
+use Rattle.shelf.specs.Shelf.{letGo}
 use Rattle.shelf.proofs.Bridge.{done-by}
 use borrow.Author.Needs.{needs}
 use Rattle.shelf.proofs.let_go_by_value.Statement.{statement}

@@ -48,7 +48,8 @@ use Rattle.slots.proofs.shown.Met as shown-thm
 use Rattle.slots.proofs.put.Symbol as put-def
 use Rattle.slots.proofs.put.Symbol.{name as #slots·put}
 use Rattle.slots.proofs.put.Met as put-thm
-use Rattle.shelf.specs.Shelf.{judged, refuse, saveLent, imagesAfter, SaveDone}
+use Rattle.slot_users.specs.Users.{refuse}
+use Rattle.shelf.specs.Shelf.{judged, saveLent, imagesAfter, SaveDone}
 use Rattle.shelf.specs.ByValue as ByValue
 use Rattle.shelf.specs.declared.Taking.{Taking}
 use Rattle.shelf.specs.declared.Saved.{Saved}

@@ -11,7 +11,7 @@ use mir.ValLaws.{toZ-ofZ}
 use Rattle.fixed.specs.Machine.{back}
 use Rattle.reflection.specs.declared.Reflection.{Reflection}
 use Rattle.reflection.specs.Reflection as Levinson
-use Rattle.codebook.specs.declared.Innovation.{Innovation}
+use Rattle.code_index.specs.declared.Innovation.{Innovation}
 use Rattle.gain.specs.declared.Decoded.{Decoded}
 use Rattle.gain.specs.Gain as Gain
 use Rattle.half.specs.declared.Counts.{Counts}

@@ -8,7 +8,7 @@ use lib.IntN.{ℤ, pos}
 use lib.Signed.{ltZ}
 use mir.Syntax.{w16}
 use Rattle.fixed.specs.Machine.{back}
-use Rattle.codebook.specs.declared.Innovation.{Innovation}
+use Rattle.code_index.specs.declared.Innovation.{Innovation}
 use Rattle.pitch.specs.Pitch as Pitch
 use Rattle.half.specs.Core as Spec
 use Rattle.subframe.proofs.shaped.Statement.{statement}

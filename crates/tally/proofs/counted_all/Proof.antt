@@ -5,7 +5,7 @@ use mathlib.Core.List.{List, [], _∷_}
 use mathlib.Core.Path.{_≡_, refl, _∙_}
 use native.Mathlib.Omega.{arith}
 use lib.ListN.{length, getD}
-use Rattle.frame.specs.declared.Subframe.{Subframe}
+use Rattle.observation.specs.declared.Subframe.{Subframe}
 use Rattle.tally.specs.declared.Subframes.{Subframes}
 use Rattle.tally.proofs.counted_all.Statement.{statement}
 use Rattle.tally.proofs.counted_all.Tie as tie

@@ -1,5 +1,5 @@
 -- heard's start, with an empty tally.
-use Rattle.term.specs.Feed.{started}
+use Rattle.term_steps.specs.Feed.{started}
 use borrow.Author.Needs.{needs}
 use Rattle.term.proofs.begin.Statement.{statement}
 use Rattle.term.proofs.begin.Tie as tie

@@ -6,7 +6,7 @@ use Rattle.sequence.specs.All.{all, and-right}
 use Rattle.hex.specs.Text.{isDigit, isFrame}
 use Rattle.heard.specs.Recording.{event}
 use Rattle.hex.specs.Held.{heldLine}
-use Rattle.term.specs.Steps.{lineCalled}
+use Rattle.term_steps.specs.Steps.{lineCalled}
 use Rattle.term.proofs.Calls.{called-missed}
 use borrow.Author.Needs.{needs}
 use Rattle.term.proofs.call.Statement.{statement}

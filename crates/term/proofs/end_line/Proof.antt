@@ -1,7 +1,7 @@
 -- The tests are the definition's.
 use mathlib.Core.Path.{sym, _∙_}
-use Rattle.term.specs.Term.{isEnd}
-use Rattle.term.specs.Steps.{lineEnded}
+use Rattle.term_steps.specs.Term.{isEnd}
+use Rattle.term_steps.specs.Steps.{lineEnded}
 use borrow.Author.Needs.{needs}
 use Rattle.term.proofs.end_line.Statement.{statement}
 use Rattle.term.proofs.end_line.Tie as tie

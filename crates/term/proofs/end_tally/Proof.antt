@@ -1,7 +1,7 @@
 -- A line that is open is a line, unless nothing stands in it.
 use native.Mathlib.Omega.{arith}
 use borrow.Author.Tests.{eq-eqb, ne-eqb}
-use Rattle.term.specs.Feed.{endTally}
+use Rattle.term_steps.specs.Feed.{endTally}
 use borrow.Author.Needs.{needs}
 use Rattle.term.proofs.end_tally.Statement.{statement}
 use Rattle.term.proofs.end_tally.Tie as tie

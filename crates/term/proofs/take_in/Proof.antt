@@ -5,8 +5,8 @@ use mathlib.Core.Path.{_≡_, refl, _∙_}
 use lib.ListN.{length, take}
 use lib.Seq.{take-all}
 use Rattle.stream.specs.Machine.{fedAll, fed-more}
-use Rattle.term.specs.Steps.{place}
-use Rattle.term.specs.Feed.{standing, fed, fed-newline, fed-other}
+use Rattle.term_steps.specs.Steps.{place}
+use Rattle.term_steps.specs.Feed.{standing, fed, fed-newline, fed-other}
 use Rattle.term.proofs.take_in.Statement.{statement}
 use Rattle.term.proofs.take_in.Tie as tie
 

@@ -1,4 +1,0 @@
-pub mod Frame
-pub mod Named
-pub mod Kept
-pub mod Depends

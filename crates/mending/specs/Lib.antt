@@ -1,0 +1,7 @@
+pub mod Repair
+pub mod Worked
+pub mod Look
+pub mod Bytes
+pub mod Laws
+pub mod Looked
+pub mod Texts

@@ -1,0 +1,3 @@
+pub mod Postfilter
+pub mod Sections
+pub mod Blocks

@@ -1,3 +1,0 @@
-pub mod Postfilter
-pub mod Unscaled
-pub mod Blocks

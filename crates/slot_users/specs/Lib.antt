@@ -1,0 +1,4 @@
+pub mod Users
+pub mod ByValue
+pub mod Held
+pub mod Worked
