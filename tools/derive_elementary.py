@@ -1,5 +1,5 @@
 #!/usr/bin/env python3
-"""Derives the constants of the logarithm and the exponential of the crate `gain`, and prints each by value and by bits.
+"""Derives the constants of the logarithm and the exponential of the crate `elementary`, and prints each by value and by bits.
 
     python3 tools/derive_elementary.py        (needs mpmath; takes some seconds)
 

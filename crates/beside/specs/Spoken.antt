@@ -29,10 +29,10 @@ use Rattle.verdict.specs.Verdict.{same, isFrame, isRefusal, known, head, says, 
 use Rattle.verdict.specs.Same.{same-not}
 use Rattle.verdict.specs.Kept.{Kept, kept, Keeps, keeps-none, keeps-all}
 use Rattle.verdict.specs.Round.{upTo, round, last}
-use Rattle.beside.specs.declared.Judge.{Judge}
-use Rattle.beside.specs.declared.Heard.{Heard}
+use Rattle.judging.specs.declared.Judge.{Judge}
+use Rattle.judging.specs.declared.Heard.{Heard}
 use Rattle.beside.specs.Beside.{output, program}
-use Rattle.beside.specs.Talk.{begin, oursText, closed, hearOurs, endText, again, final, ended, keptWith, more, hearTheirs, theirsHeld, theirsText}
+use Rattle.judging.specs.Talk.{begin, oursText, closed, hearOurs, endText, again, final, ended, keptWith, more, hearTheirs, theirsHeld, theirsText}
 use Rattle.beside.specs.Long.{Ten, reset-ten, cold-ten, line-ten, One, line-one}
 
 -- ---- where a comparison stands, with what the lent buffers hold

@@ -1,9 +1,8 @@
-// A frame of 20 bytes and its 24 fields: post_fec.rs, bits.rs, and the two changes that mod.rs makes to what they read.
+// A frame of 20 bytes and the bits of its 24 fields, read and written: post_fec.rs, bits.rs. What the fields are is `frame_params`.
 ghost use mathlib.Core.Path.{_≡_};
 ghost use mathlib.Core.List.{map};
 ghost use Prim.Native.Nat.{ℕ, _+_, _*_, _/_, _%_, _^_, _<_, _≤_};
-ghost use lib.Dec.{leb};
-ghost use lib.ListN.{length, getD, take, drop, replicate};
+ghost use lib.ListN.{length, getD, take, drop};
 ghost use Rattle.sequence.specs.Table.{table};
 ghost use Rattle.bits.specs.Bits as Bits;
 
@@ -266,7 +265,7 @@ fn place(places: &[u8], j: usize) -> usize
     wide(places[j])
 }
 
-fn width(k: usize) -> usize
+pub fn width(k: usize) -> usize
     requires { ⌜ k < 24 ⌝ }
     ensures { λ r. ⌜ r ≡ getD Bits.widths k 0 ⌝ }
 {
@@ -314,7 +313,7 @@ fn read(places: &[u8], payload: &[u8], at: usize, width: usize) -> u16
 }
 
 // The fields as they are read.
-fn gather(payload: &[u8]) -> [u16; 24]
+pub fn gather(payload: &[u8]) -> [u16; 24]
     requires { ⌜ length (now payload) ≡ 20 ⌝ }
     ensures { λ r. ⌜ r ≡ Bits.gather (Bits.readBit (now (payload .entry))) ⌝ }
 {
@@ -354,7 +353,7 @@ fn write(places: &[u8], bits: &mut [u8; 160], at: usize, width: usize, v: u16)
 }
 
 // The 160 bits of the frame that reads as these fields.
-fn spread(fields: [u16; 24]) -> [u8; 160]
+pub fn spread(fields: [u16; 24]) -> [u8; 160]
     ensures { λ r. ⌜ r ≡ Bits.spread fields ⌝ }
 {
     let places = PLACES;
@@ -394,169 +393,5 @@ pub fn put_bytes(bits: &[u8; 160], out: &mut [u8])
     while b < 20 {
         out[b] = byte(bits, b);
         b += 1;
-    }
-}
-
-// Has v more than w digits?
-fn over(v: u16, w: usize) -> bool
-    requires { ⌜ w < 32 ⌝ }
-    ensures { λ r. ⌜ r ≡ leb (2 ^ w) v ⌝ }
-{
-    1u32 << w <= v as u32
-}
-
-// 8 where a field is wider than its bits, else 0.
-fn width_number(fields: [u16; 24]) -> u8
-    ensures { λ r. ⌜ r ≡ Bits.widthNumber fields ⌝ }
-{
-    let mut k: usize = 0;
-    while k < 24 {
-        if over(fields[k], width(k)) {
-            return 8;
-        }
-        k += 1;
-    }
-    0
-}
-
-// The fields of a half, of which the first is at a place.
-pub fn half_params(fields: [u16; 24], at: usize) -> HalfParams
-    requires { ⌜ at ≤ 12 ⌝ }
-    ensures { λ r. ⌜ r ≡ Bits.halfParams fields at ⌝ }
-{
-    HalfParams {
-        gain_low0: fields[at],
-        gain_low1: fields[at + 1],
-        code0: fields[at + 2],
-        code1: fields[at + 3],
-        gain_high0: fields[at + 4],
-        gain_high1: fields[at + 5],
-        mode: fields[at + 6],
-        stage1: fields[at + 7],
-        stage2_low: fields[at + 8],
-        stage2_high: fields[at + 9],
-        absolute_pitch: fields[at + 10],
-        relative_pitch: fields[at + 11],
-    }
-}
-
-// The fields of both halves, one after the other.
-pub fn list(f: FrameParams) -> [u16; 24]
-    ensures { λ r. ⌜ r ≡ Bits.list f ⌝ }
-{
-    let x = f.first;
-    let y = f.second;
-    [
-        x.gain_low0,
-        x.gain_low1,
-        x.code0,
-        x.code1,
-        x.gain_high0,
-        x.gain_high1,
-        x.mode,
-        x.stage1,
-        x.stage2_low,
-        x.stage2_high,
-        x.absolute_pitch,
-        x.relative_pitch,
-        y.gain_low0,
-        y.gain_low1,
-        y.code0,
-        y.code1,
-        y.gain_high0,
-        y.gain_high1,
-        y.mode,
-        y.stage1,
-        y.stage2_low,
-        y.stage2_high,
-        y.absolute_pitch,
-        y.relative_pitch,
-    ]
-}
-
-// The fields of a payload, or the number that it is refused with.
-pub fn unpack(payload: &[u8]) -> Unpacked
-    ensures { λ r. ⌜ (r ≡ Bits.unpack (now (payload .entry))) × (Bits.number r ≡ Bits.refusal (now (payload .entry))) × (Bits.fields r ≡ Bits.fieldsOrZero (now (payload .entry))) ⌝ }
-{
-    if payload.len() != 20 {
-        return Unpacked::Refused(3);
-    }
-    if payload[19] & 0xc0 != 0 {
-        return Unpacked::Refused(6);
-    }
-    let mut fields = gather(payload);
-    // absolute_pitch of the first half
-    fields[10] = fields[10] ^ 3;
-    let first = half_params(fields, 0);
-    let second = half_params(fields, 12);
-    Unpacked::Fields(FrameParams { first, second })
-}
-
-// 24 fields, each 0.
-fn no_fields() -> FrameParams
-    ensures { λ r. ⌜ r ≡ Bits.frameParams (replicate 24 0) ⌝ }
-{
-    let h = HalfParams {
-        gain_low0: 0,
-        gain_low1: 0,
-        code0: 0,
-        code1: 0,
-        gain_high0: 0,
-        gain_high1: 0,
-        mode: 0,
-        stage1: 0,
-        stage2_low: 0,
-        stage2_high: 0,
-        absolute_pitch: 0,
-        relative_pitch: 0,
-    };
-    FrameParams {
-        first: h,
-        second: h,
-    }
-}
-
-// The fields that were read, or where the payload is refused 24 zeros.
-pub fn fields(u: Unpacked) -> FrameParams
-    ensures { λ r. ⌜ r ≡ Bits.fields u ⌝ }
-{
-    match u {
-        Unpacked::Fields(f) => f,
-        Unpacked::Refused(_) => no_fields(),
-    }
-}
-
-// Writes the frame of these fields, once none of them is refused.
-pub fn pack(f: FrameParams, out: &mut [u8]) -> u8
-    ensures { λ r. ⌜ (r ≡ Bits.pack f (now (out .entry))) × (now (out .exit) ≡ Bits.packed f (now (out .entry))) ⌝ }
-{
-    if out.len() != 20 {
-        return 3;
-    }
-    let mut fields = list(f);
-    let number = width_number(fields);
-    if number == 0 {
-        // absolute_pitch of the first half, changed back
-        fields[10] = fields[10] ^ 3;
-        let bits = spread(fields);
-        put_bytes(&bits, out);
-    }
-    number
-}
-
-fn joined(high: u16, low: u16) -> usize
-    ensures { λ r. ⌜ r ≡ Bits.joined high low ⌝ }
-{
-    ((high % 8) as usize) * 16 + (low % 16) as usize
-}
-
-// The gain index of subframe `sub` of the half, 0 or 1.
-pub fn gain_index(h: HalfParams, sub: usize) -> usize
-    ensures { λ r. ⌜ r ≡ Bits.gainIndex h sub ⌝ }
-{
-    if sub == 0 {
-        joined(h.gain_high0, h.gain_low0)
-    } else {
-        joined(h.gain_high1, h.gain_low1)
     }
 }

@@ -7,7 +7,7 @@ use lib.Ieee.{nan, binary32, ofBits, toBits, ofInt, toUnsigned, add, sub, mul, l
 use Rattle.sequence.specs.Table.{table}
 use Rattle.spectral.specs.Spectral.{sort, spread}
 use Rattle.gain.specs.Gain.{step}
-use Rattle.gain.specs.Elementary.{bits}
+use Rattle.elementary.specs.Elementary.{bits}
 
 -- a NaN stays before what it stood before; Rust's `total_cmp` would put it last
 nan-stays : map (toUnsigned 16) (spread (sort lt (nan ∷ replicate 9 (ofInt binary32 (pos 1000))))) ≡ (41 ∷ 1000 ∷ 1321 ∷ 1642 ∷ 1963 ∷ 2284 ∷ 2605 ∷ 2926 ∷ 3247 ∷ 3568 ∷ [])

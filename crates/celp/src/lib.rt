@@ -11,12 +11,12 @@ ghost use Rattle.calls.specs.Run.{run};
 ghost use Rattle.calls.specs.Frames as Frames;
 use answers::accepted;
 use answers::carried;
-use answers::checked;
-use answers::frame_sizes;
-use answers::frames_sizes;
 use answers::refused;
-use answers::spoilt;
 use calls::Answer;
+use refusals::checked;
+use refusals::frame_sizes;
+use refusals::frames_sizes;
+use refusals::spoilt;
 use state::Returned;
 use state::State;
 use tables::Fault;
@@ -33,7 +33,7 @@ fn answered(
     ensures answer { λ r. ⌜ r ≡ Celp.decode (now (words .entry)) (now (bytes .entry)) state (now (payload .entry)) 320 ⌝ }
     ensures samples { λ _. ⌜ now (samples .exit) ≡ Celp.samples (now (words .entry)) (now (bytes .entry)) state (now (payload .entry)) (now (samples .entry)) ⌝ }
 {
-    let f = bits::fields(bits::unpack(payload));
+    let f = frame_params::fields(frame_params::unpack(payload));
     let why = spoilt(words, payload, f);
     if why != 0 {
         return refused(why, Fault { rule: 0, place: 0 }, state);

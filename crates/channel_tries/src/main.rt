@@ -2,7 +2,7 @@
 ghost use Prim.Native.Nat.{_≤_, _<_};
 ghost use lib.ListN.{length};
 ghost use Rattle.heard.specs.Start as Start;
-use channels::Recorder;
+use channel_lines::Recorder;
 
 // What one chunk gives, written; an empty one is the end.
 fn part(words: &[i16], file: &[u8], recorder: Recorder, chunk: &[u8]) -> Recorder

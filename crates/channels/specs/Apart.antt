@@ -12,10 +12,10 @@ use Rattle.calls.specs.Run.{Event, missed, run}
 use Rattle.calls.specs.Run as Run
 use Rattle.heard.specs.Recording.{event, lineStep, lineText}
 use Rattle.heard.specs.Recording as Recording
-use Rattle.channels.specs.declared.Pair.{Pair}
-use Rattle.channels.specs.declared.Whose.{Whose}
-use Rattle.channels.specs.declared.Whose.the-variants.{A, B, Neither}
-use Rattle.channels.specs.Channels.{whose, lettered, stepBy, textBy, step, text, cold}
+use Rattle.channel_lines.specs.declared.Pair.{Pair}
+use Rattle.channel_lines.specs.declared.Whose.{Whose}
+use Rattle.channel_lines.specs.declared.Whose.the-variants.{A, B, Neither}
+use Rattle.channel_lines.specs.Channels.{whose, lettered, stepBy, textBy, step, text, cold}
 
 pub data Channel : Type 0 where
   a : Channel

@@ -17,10 +17,10 @@ use Rattle.calls.specs.Run as Run
 use Rattle.hex.specs.Text.{isFrame, payload, frameText, refusedText}
 use Rattle.heard.specs.Recording.{lineStep, lineText}
 use Rattle.recording.specs.Late.{two-line, goes-without, sent-follows, lost-follows}
-use Rattle.channels.specs.declared.Pair.{Pair}
-use Rattle.channels.specs.declared.Whose.{Whose}
-use Rattle.channels.specs.declared.Whose.the-variants.{A, B, Neither}
-use Rattle.channels.specs.Channels.{whose, lettered, stepBy, textBy, step, text, cold}
+use Rattle.channel_lines.specs.declared.Pair.{Pair}
+use Rattle.channel_lines.specs.declared.Whose.{Whose}
+use Rattle.channel_lines.specs.declared.Whose.the-variants.{A, B, Neither}
+use Rattle.channel_lines.specs.Channels.{whose, lettered, stepBy, textBy, step, text, cold}
 use Rattle.channels.specs.Apart.{Channel, a, b, stateOf, Share, own, other, either, shareBy, share, callBy, calls, leaves, state-all}
 
 abbrev pub letter : Channel → ℕ

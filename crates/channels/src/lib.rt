@@ -9,60 +9,20 @@ ghost use Rattle.stream.specs.Room.{over};
 ghost use Rattle.stream.specs.Machine.{writtenAll};
 ghost use Rattle.table_file.specs.File as File;
 ghost use Rattle.hex.specs.Held as Hex;
-ghost use Rattle.hex.specs.Text as Text;
 ghost use Rattle.heard.specs.Recording as Recording;
 ghost use Rattle.heard.specs.Start as Start;
-ghost use Rattle.channels.specs.Channels as Channels;
-ghost use Rattle.channels.specs.Feed as Feed;
+ghost use Rattle.channel_lines.specs.Channels as Channels;
+ghost use Rattle.channel_lines.specs.Feed as Feed;
+use channel_lines::Ended;
+use channel_lines::Fed;
+use channel_lines::Held;
+use channel_lines::Pair;
+use channel_lines::Recorder;
+use channel_lines::Started;
+use channel_lines::Whose;
 use heard::Said;
 use hex::Line;
 use state::State;
-
-// Whose a line is: the channel's whose letter and a blank it begins with, or neither's.
-pub enum Whose {
-    A,
-    B,
-    Neither,
-}
-
-// The two channels' states.
-pub struct Pair {
-    pub a: State,
-    pub b: State,
-}
-
-// What is kept of the line that is coming in: its first two bytes, how many of them there are, and what is kept of the rest.
-pub struct Held {
-    pub first: u8,
-    pub second: u8,
-    pub n: usize,
-    pub rest: Line,
-}
-
-// Where a recording stands: the channels, and the line that is coming in.
-pub struct Recorder {
-    pub channels: Pair,
-    pub line: Held,
-}
-
-// The end of a line: how long its text is, and the channels that it leaves.
-pub struct Ended {
-    pub n: usize,
-    pub channels: Pair,
-}
-
-// What a chunk of the input leaves, and how long its text is.
-pub struct Fed {
-    pub recorder: Recorder,
-    pub n: usize,
-}
-
-// The start: the table file's refusal number, how long its text is, and where the recording stands.
-pub struct Started {
-    pub recorder: Recorder,
-    pub number: u8,
-    pub n: usize,
-}
 
 fn empty() -> Held
     ensures { λ r. ⌜ r ≡ Feed.kept [] ⌝ }
@@ -95,24 +55,6 @@ fn push(line: Held, b: u8) -> Held
     let more = hex::push(rest, b);
     l.rest = more;
     l
-}
-
-// Whose the line is that is held.
-fn whose_line(line: Held) -> Whose
-    ensures { λ r. ⌜ r ≡ Channels.whose (Feed.heldLine line) ⌝ }
-{
-    if line.n < 2 {
-        return Whose::Neither;
-    }
-    if line.second != b' ' {
-        return Whose::Neither;
-    }
-    let first = line.first;
-    match first {
-        b'a' => Whose::A,
-        b'b' => Whose::B,
-        _ => Whose::Neither,
-    }
 }
 
 // The start from the table file's bytes, of which the first 15,835 are enough: its words are put, and its refusal goes over the beginning of room.
@@ -148,23 +90,12 @@ fn call(words: &[i16], bytes: &[u8], letter: u8, state: State, line: Line, out: 
 {
     out[0] = letter;
     out[1] = b' ';
-    let said = heard::call(words, bytes, state, line, &mut out[2..]);
+    let said = hearing::call(words, bytes, state, line, &mut out[2..]);
     let next = said.state;
     Said {
         n: 2 + said.n,
         state: next,
     }
-}
-
-// The line of a frame that may have been either's.
-fn put_neither(out: &mut [u8]) -> usize
-    requires { ⌜ 1285 ≤ length (now out) ⌝ }
-    ensures length { λ r. ⌜ r ≡ 12 ⌝ }
-    ensures text { λ _. ⌜ now (out .exit) ≡ over (Channels.lettered 63 (Text.refusedText 9)) (now (out .entry)) ⌝ }
-{
-    out[0] = b'?';
-    out[1] = b' ';
-    2 + hex::put_refused(9, &mut out[2..])
 }
 
 // The end of a line: its text goes over the beginning of out.
@@ -178,7 +109,7 @@ fn end_line(words: &[i16], bytes: &[u8], channels: Pair, line: Held, out: &mut [
     let a = channels.a;
     let b = channels.b;
     let rest = line.rest;
-    match whose_line(line) {
+    match channel_lines::whose_line(line) {
         Whose::A => {
             let said = call(words, bytes, b'a', a, rest, out);
             let next = said.state;
@@ -195,17 +126,7 @@ fn end_line(words: &[i16], bytes: &[u8], channels: Pair, line: Held, out: &mut [
                 channels: Pair { a, b: next },
             }
         }
-        Whose::Neither => {
-            let missed_a = heard::missed(a);
-            let missed_b = heard::missed(b);
-            Ended {
-                n: put_neither(out),
-                channels: Pair {
-                    a: missed_a,
-                    b: missed_b,
-                },
-            }
-        }
+        Whose::Neither => channel_lines::end_neither(channels, out),
     }
 }
 

@@ -1,10 +1,10 @@
-// Another decoder's lines beside ours: read, beside's calls, write. The first argument names the recording's file, the supplier's lines are standard input.
+// Another decoder's lines beside ours: read, the calls of beside and judging, write. The first argument names the recording's file, the supplier's lines are standard input.
 ghost use mathlib.Core.Path.{_≡_};
 ghost use Prim.Native.Nat.{_≤_};
 ghost use lib.ListN.{length};
 ghost use Rattle.heard.specs.Start as Start;
-use beside::Judge;
 use heard::Recorder;
+use judging::Judge;
 use libc::STDERR_FILENO;
 use libc::STDIN_FILENO;
 
@@ -97,7 +97,7 @@ fn theirs(judge: Judge, left: Unread, text: &[u8], chunk: &mut [u8], held: &mut 
     }
     let at = l.at;
     let to = l.to;
-    let h = beside::theirs(judge, text, held, &chunk[at..to], &mut room);
+    let h = judging::theirs(judge, text, held, &chunk[at..to], &mut room);
     let next = h.judge;
     let n = h.n;
     let put = pipe::write(&room[..n]);

@@ -1,5 +1,4 @@
 pub mod Convert
 pub mod Worked
 pub mod Halves
-pub mod Feed
 pub mod Back

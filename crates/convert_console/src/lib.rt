@@ -1,7 +1,7 @@
-// The two converting programs: read, convert's call, write.
-ghost use Rattle.convert.specs.Feed as Feed;
-use convert::Converter;
+// The two converting programs: read, converter's call, write.
+ghost use Rattle.converter.specs.Feed as Feed;
 use convert::Way;
+use converter::Converter;
 use libc::STDERR_FILENO;
 
 // Where the file stands after a read, how long the text was that was written, and whether there may be more.
@@ -43,7 +43,7 @@ fn take_in(way: Way, converter: Converter) -> Turn
         };
     }
     let n = got.n;
-    let fed = convert::answer(way, converter, &chunk[..n], &mut room);
+    let fed = converter::answer(way, converter, &chunk[..n], &mut room);
     let next = fed.converter;
     let m = fed.n;
     let put = pipe::write(&room[..m]);
@@ -79,7 +79,7 @@ fn stopped(way: Way) {
 // Each turn reads a byte or more, or is the last. A proved loop has to end and nothing says that an input does, so the turns are
 // counted, as in console.
 pub fn run(way: Way) {
-    let mut converter = convert::begin();
+    let mut converter = converter::begin();
     let mut turns = u64::MAX;
     while turns > 0 {
         let t = take_in(way, converter);

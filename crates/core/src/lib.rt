@@ -10,7 +10,7 @@ ghost use Rattle.synth.specs.Synth as Synth;
 ghost use Rattle.output_filter.specs.Postfilter as Postfilter;
 ghost use Rattle.half.specs.Core as Spec;
 use bits::HalfParams;
-use bits::gain_index;
+use frame_params::gain_index;
 use half::Clipped;
 use half::Core;
 use half::Filtered;
@@ -78,7 +78,7 @@ fn synthesise(lpc: [i16; 11], input: [i16; 80], memory: [i16; 10], samples: &mut
     ensures clipped { λ r. ⌜ r .clipped ≡ Synth.clipped lpc memory input ⌝ }
 {
     let mut mem = memory;
-    let clipped = synth::synthesis(&lpc[..], &input[..], samples, &mut mem[..]);
+    let clipped = synthesis::synthesis(&lpc[..], &input[..], samples, &mut mem[..]);
     Memory {
         memory: mem,
         clipped,

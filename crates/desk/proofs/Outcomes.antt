@@ -95,13 +95,17 @@ module _ (b : List ℕ) where
   unfolding missedNumber missedImage unmarked
   missed-eleven h = rw (ne-eqb (length b) 526 h) (refl, refl)
 
-  pub missed-told : (r : Returned) → length b ≡ 526 → r ≡ missedFrame (state b) → (r .number ≡ missedNumber b) × (lowered b ≡ missedImage b)
-  missed-told r h e = (ap (λ (x : Returned). x .number) e ∙ sym (missed-same b h), sym (missed-image b h))
+  pub missed-told : (r : Returned) (i : List ℕ) → length b ≡ 526 → r ≡ missedFrame (state b) → i ≡ lowered b → (r .number ≡ missedNumber b) × (i ≡ missedImage b)
+  missed-told r i h e l = (ap (λ (x : Returned). x .number) e ∙ sym (missed-same b h), l ∙ sym (missed-image b h))
 
 -- ---- a frame
 module _ (tables b payload old : List ℕ) where
   abbrev pub Told : ℕ → List ℕ → List ℕ → Type 0
   Told n i s = (n ≡ decodeNumber tables b payload (length old)) × ((i ≡ decodeImage tables b payload (length old)) × (s ≡ decodeSamples tables b payload old))
+
+  -- an image that was lowered is told as its definition is
+  pub lowered-told : (n : ℕ) (i s : List ℕ) → i ≡ lowered b → Told n (lowered b) s → Told n i s
+  lowered-told n i s e t = (t .0, (e ∙ t .1 .0, t .1 .1))
 
   pub decode-eleven : (length b ≡ 526 → ⊥) → Told 11 b old
   unfolding decodeNumber decodeImage decodeSamples barred unmarked
@@ -170,6 +174,9 @@ numbers-kept words bytes s payloads room told = by (Frames.framesRefusal words b
 module _ (tables b payloads old told : List ℕ) where
   abbrev pub AllTold : ℕ → List ℕ → List ℕ → List ℕ → Type 0
   AllTold n i s m = (n ≡ framesNumber tables b payloads (length old) (length told)) × ((i ≡ framesImage tables b payloads (length old) (length told)) × ((s ≡ framesSamples tables b payloads old (length told)) × (m ≡ framesNumbers tables b payloads (length old) told)))
+
+  pub lowered-all : (n : ℕ) (i s m : List ℕ) → i ≡ lowered b → AllTold n (lowered b) s m → AllTold n i s m
+  lowered-all n i s m e t = (t .0, (e ∙ t .1 .0, t .1 .1))
 
   pub frames-eleven : (length b ≡ 526 → ⊥) → AllTold 11 b old told
   unfolding framesNumber framesImage framesSamples framesNumbers barred unmarked

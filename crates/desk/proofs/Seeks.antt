@@ -12,7 +12,7 @@ use Rattle.image.specs.Image.{SIZE, image}
 use Rattle.slots.specs.declared.Slot.{Slot}
 use Rattle.shelf.specs.Shelf.{lent}
 use Rattle.shelf.specs.Cases.{judged-not}
-use Rattle.desk_shelf.specs.Records.{RECORDS, records, no-records}
+use Rattle.desk_records.specs.Records.{RECORDS, records, no-records}
 use Rattle.seek.specs.declared.Sought.{Sought}
 use Rattle.seek.specs.Seek as Seek
 use Rattle.desk_calls.specs.Desk.{TABLES, words, bytes}

@@ -4,6 +4,7 @@ ghost use lib.ListN.{length};
 ghost use Rattle.shelf.specs.Shelf as Shelf;
 ghost use Rattle.desk_shelf.specs.Calls as Calls;
 ghost use Rattle.desk_fields.specs.Calls as Fields;
+ghost use Rattle.desk_tables.specs.Check as Check;
 ghost use Rattle.seek.specs.Seek as Seek;
 ghost use Rattle.desk_calls.specs.Desk as Desk;
 ghost use Rattle.desk_calls.specs.Seeking as Seeking;
@@ -16,11 +17,6 @@ const TABLES: usize = 15834;
 const BYTES: usize = 11926;
 
 const ROOM: usize = 640;
-
-// The place of an image's mark, and of how sure it is.
-const MARK: usize = image::SIZE - 2;
-
-const SURE: usize = image::SIZE - 1;
 
 // An image of another length.
 const NO_IMAGE: u8 = 11;
@@ -53,7 +49,7 @@ pub extern "C" fn drolkhise_reset(tables: &[u8], image: &mut [u8]) -> u8
     image::read_words(tables, 0, &mut words);
     let r = state::reset(&words, &tables[BYTES..]);
     let state = r.state;
-    image::write(state, image);
+    image_write::write(state, image);
     r.number
 }
 
@@ -74,7 +70,7 @@ pub extern "C" fn drolkhise_cold_start(tables: &[u8], image: &mut [u8]) -> u8
     image::read_words(tables, 0, &mut words);
     let r = state::cold_start(&words, &tables[BYTES..]);
     let state = r.state;
-    image::write(state, image);
+    image_write::write(state, image);
     r.number
 }
 
@@ -94,13 +90,11 @@ pub extern "C" fn drolkhise_decode(
         return NO_IMAGE;
     }
     if tables.len() != TABLES {
-        image[MARK] = 0;
-        image[SURE] = 0;
+        lowering::lower(image);
         return 1;
     }
     if samples.len() != ROOM {
-        image[MARK] = 0;
-        image[SURE] = 0;
+        lowering::lower(image);
         return 2;
     }
     let mut words = [0i16; 5963];
@@ -109,13 +103,12 @@ pub extern "C" fn drolkhise_decode(
     let state = image::read(image);
     let a = celp::decode(&words, &tables[BYTES..], state, payload, &mut pcm);
     if a.number != 0 {
-        image[MARK] = 0; // whatever it came with
-        image[SURE] = 0;
+        lowering::lower(image);
         return a.number;
     }
     let next = a.state;
-    image::write(next, image);
-    image::put_words(&pcm, samples, 0);
+    image_write::write(next, image);
+    image_bytes::put_words(&pcm, samples, 0);
     0
 }
 
@@ -154,13 +147,12 @@ fn frames(
     image::read_words(samples, 0, pcm); // a refused frame's are written back
     let r = celp::decode_frames(&words, &tables[BYTES..], state, payloads, pcm, numbers);
     if r.number != 0 {
-        image[MARK] = 0;
-        image[SURE] = 0;
+        lowering::lower(image);
         return r.number;
     }
     let next = r.state;
-    image::write(next, image);
-    image::put_words(pcm, samples, 0);
+    image_write::write(next, image);
+    image_bytes::put_words(pcm, samples, 0);
     0
 }
 
@@ -182,8 +174,7 @@ pub extern "C" fn drolkhise_decode_frames(
         return NO_IMAGE;
     }
     if tables.len() != TABLES {
-        image[MARK] = 0;
-        image[SURE] = 0;
+        lowering::lower(image);
         return 1;
     }
     let n = samples_in(samples.len());
@@ -202,8 +193,7 @@ pub extern "C" fn drolkhise_missed_frame(image: &mut [u8]) -> u8
     }
     let state = image::read(image);
     let r = state::missed_frame(state);
-    image[MARK] = 0;
-    image[SURE] = 0;
+    lowering::lower(image);
     r.number
 }
 
@@ -283,30 +273,30 @@ pub extern "C" fn drolkhise_seek(
     if image.len() != image::SIZE {
         return NO_IMAGE;
     }
-    if records.len() != desk_shelf::RECORDS {
-        image::write(state::all_zero(), image);
+    if records.len() != desk_records::RECORDS {
+        image_write::write(state::all_zero(), image);
         return 12;
     }
     let found = sought(
         tables,
-        desk_shelf::read_records(records),
+        desk_records::read_records(records),
         images,
         recording,
         k,
     );
     let state = found.state;
-    image::write(state, image);
+    image_write::write(state, image);
     found.number
 }
 
-// The table check, the unpacker and the packer: the calls of desk_fields under C names.
+// The table check, the unpacker and the packer: the calls of desk_tables and desk_fields under C names.
 
 #[no_mangle]
 pub extern "C" fn drolkhise_check_tables(tables: &[u8], told: &mut [u8]) -> u8
-    ensures number { λ r. ⌜ r ≡ Fields.checkNumber (now (tables .entry)) (length (now (told .entry))) ⌝ }
-    ensures told { λ _. ⌜ now (told .exit) ≡ Fields.checkTold (now (tables .entry)) (now (told .entry)) ⌝ }
+    ensures number { λ r. ⌜ r ≡ Check.checkNumber (now (tables .entry)) (length (now (told .entry))) ⌝ }
+    ensures told { λ _. ⌜ now (told .exit) ≡ Check.checkTold (now (tables .entry)) (now (told .entry)) ⌝ }
 {
-    desk_fields::check_tables(tables, told)
+    desk_tables::check_tables(tables, told)
 }
 
 #[no_mangle]

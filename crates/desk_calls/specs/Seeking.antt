@@ -5,7 +5,7 @@ use mathlib.Core.Bool.{not, cond}
 use lib.Dec.{eqb}
 use lib.ListN.{length}
 use Rattle.image.specs.Image.{SIZE, image}
-use Rattle.desk_shelf.specs.Records.{records}
+use Rattle.desk_records.specs.Records.{records}
 use Rattle.seek.specs.declared.Sought.{Sought}
 use Rattle.seek.specs.Seek as Seek
 use Rattle.desk_calls.specs.Desk.{words, bytes}

@@ -5,22 +5,10 @@ use lib.ListN.{set, replicate}
 use Rattle.sequence.specs.First.{firstFrom}
 use Rattle.sequence.specs.Table.{table}
 use Rattle.bits.specs.Bits.{groups, places, widths, inverted, bitAt, readBit, gather, fieldsOf, refusal, fieldsOrZero, spread, byteOf, frameOf, widthNumber, pack, packed}
-use Rattle.state.specs.State.{fault}
 use Rattle.image.specs.Bytes.{bytesOf, numberAt}
 use Rattle.image.specs.Parts.{bytesOfAll, numbersAt}
-use Rattle.desk_fields.specs.Fields.{bytesOfFields, fieldsOfBytes, bytesOfFault}
-use Rattle.desk_fields.specs.Calls.{checkNumber, checkTold, unpackNumber, unpackFields, packNumber, packPayload}
-
--- ---- the table check
--- with nothing lent it is 1; with room for what is told, 0 and 0 are told
-no-tables : (checkNumber [] 0 ≡ 1) × (checkTold [] [] ≡ []) × (checkNumber [] 5 ≡ 1) × (checkTold [] (replicate 5 7) ≡ replicate 5 0)
-unfolding checkNumber checkTold fault bytesOfFault bytesOf
-no-tables = (refl, refl, refl, refl)
-
--- tables and a room a byte short, or a byte long: 2, and the room stays
-wrong-room : (checkNumber (replicate 15834 0) 4 ≡ 2) × (checkNumber (replicate 15834 0) 6 ≡ 2) × (checkTold (replicate 15834 0) (replicate 4 7) ≡ replicate 4 7)
-unfolding checkNumber checkTold
-wrong-room = (refl, refl, refl)
+use Rattle.desk_fields.specs.Fields.{bytesOfFields, fieldsOfBytes}
+use Rattle.desk_fields.specs.Calls.{unpackNumber, unpackFields, packNumber, packPayload}
 
 -- ---- unpacking
 -- the zero frame: stage2_low of the first half, field 8, is 1, and every other 0

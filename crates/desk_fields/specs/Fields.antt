@@ -1,15 +1,14 @@
--- A frame's fields, and what is told of a broken set rule, as bytes that a player in C lends: of each number the lowest byte first.
+-- A frame's fields as bytes that a player in C lends: of each number the lowest byte first.
 use Prim.Native.Nat.{ℕ, _/_, _%_}
 use mathlib.Core.Path.{_≡_, refl}
-use mathlib.Core.List.{List, [], _∷_}
+use mathlib.Core.List.{List}
 use mathlib.Core.Bool.{cond}
 use lib.Dec.{eqb}
 use lib.ListN.{getD}
 use Rattle.sequence.specs.Table.{table}
-use Rattle.tables.specs.declared.Fault.{Fault}
 use Rattle.bits.specs.declared.FrameParams.{FrameParams}
 use Rattle.bits.specs.Bits.{frameParams, list}
-use Rattle.image.specs.Bytes.{bytesOf, numberAt}
+use Rattle.image.specs.Bytes.{bytesOf}
 use Rattle.image.specs.Parts.{bytesOfAll, numbersAt}
 
 -- ---- the 24 fields, in their order in Bits, two bytes each
@@ -21,21 +20,6 @@ bytesOfFields f = bytesOfAll 2 (list f)
 
 unfoldable pub fieldsOfBytes : List ℕ → FrameParams
 fieldsOfBytes b = frameParams (numbersAt 2 24 b 0)
-
--- ---- a rule and a place: one byte and four
-abbrev pub TOLD : ℕ
-TOLD = 5
-
-unfoldable pub bytesOfFault : Fault → List ℕ
-bytesOfFault f = f .rule ∷ bytesOf 4 (f .place)
-
-unfoldable pub faultOfBytes : List ℕ → Fault
-faultOfBytes b = record { rule = getD b 0 0; place = numberAt 4 b 1 }
-
--- rule 5 at word 1,483, which is 5 · 256 + 203
-worked-fault : (bytesOfFault (record { rule = 5; place = 1483 }) ≡ 5 ∷ 203 ∷ 5 ∷ 0 ∷ 0 ∷ []) × (faultOfBytes (5 ∷ 203 ∷ 5 ∷ 0 ∷ 0 ∷ []) ≡ record { rule = 5; place = 1483 })
-unfolding bytesOfFault faultOfBytes bytesOf numberAt
-worked-fault = (refl, refl)
 
 -- ---- byte k of the fields, as the code makes it
 unfoldable pub byteOf : List ℕ → ℕ → ℕ

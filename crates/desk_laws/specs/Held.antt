@@ -24,7 +24,7 @@ use Rattle.bits.specs.Widths.{InWidths, within-names, fields-within}
 use Rattle.lsp.specs.Lsp as Lsp
 use Rattle.pitch.specs.declared.Lag.{Lag}
 use Rattle.pitch.specs.Pitch as Pitch
-use Rattle.gain.specs.Elementary.{bits, add}
+use Rattle.elementary.specs.Elementary.{bits, add}
 use Rattle.gain.specs.Gain as Gain
 use Rattle.spectral.specs.Spectral as Spectral
 use Rattle.spectral.specs.Kept.{Words16, length-residual}

@@ -12,7 +12,7 @@ use Rattle.image.specs.Image.{SIZE}
 use Rattle.slot_users.specs.Users.{SLOTS, free}
 use Rattle.shelf.specs.Shelf as Shelf
 use Rattle.shelf.specs.Shelf.{number, lent, judged}
-use Rattle.desk_shelf.specs.Records.{records}
+use Rattle.desk_records.specs.Records.{records}
 use Rattle.desk_shelf.specs.Calls.{save, savedImage}
 use Rattle.desk_laws.specs.Runs.{Lent, exact, obeys-no-nans}
 

@@ -16,9 +16,8 @@ use Rattle.image.specs.Bytes.{numberAt}
 use Rattle.image.specs.Parts.{numbersAt, length-numbers, numbers-at}
 use Rattle.image.specs.Image.{SIZE, signed}
 use Rattle.image.specs.Signs.{getD-mapped}
-use Rattle.desk_fields.specs.Fields.{TOLD}
-use Rattle.desk_fields.specs.Calls.{checkNumber}
-use Rattle.desk_fields.specs.Told.{file-number}
+use Rattle.desk_tables.specs.Check.{TOLD, checkNumber}
+use Rattle.desk_tables.specs.Told.{file-number}
 use Rattle.desk_calls.specs.Desk.{TABLES, words, bytes, barred, resetNumber}
 use Rattle.desk_calls.specs.Images.{words-long}
 

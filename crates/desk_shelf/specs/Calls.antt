@@ -8,7 +8,7 @@ use Rattle.image.specs.Image as Image
 use Rattle.image.specs.Image.{SIZE}
 use Rattle.slot_users.specs.Users.{Decision, refuse, change}
 use Rattle.shelf.specs.Shelf as Shelf
-use Rattle.desk_shelf.specs.Records.{records, bytesOfRecords}
+use Rattle.desk_records.specs.Records.{records, bytesOfRecords}
 
 -- ---- of a decision: the records b after it, and what stands in the room for a slot's number
 unfoldable pub recordsAfter : Decision → List ℕ → List ℕ

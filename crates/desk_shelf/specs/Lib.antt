@@ -1,5 +1,3 @@
-pub mod Records
 pub mod Calls
-pub mod RoundTrips
 pub mod Same
 pub mod Sequences

@@ -20,9 +20,9 @@ use Rattle.slot_users.specs.Users.{SLOTS, Decision, refuse, change, ofHeld, use
 use Rattle.shelf.specs.Shelf as Shelf
 use Rattle.shelf.specs.Shelf.{lent, judged, slotsAfter}
 use Rattle.shelf.specs.Cases.{lent-means}
-use Rattle.desk_shelf.specs.Records.{RECORDS, recordAt, records}
+use Rattle.desk_records.specs.Records.{RECORDS, recordAt, records}
 use Rattle.desk_shelf.specs.Calls.{recordsAfter, hold, letGo, save}
-use Rattle.desk_shelf.specs.RoundTrips.{HeldSlot, HeldSlots, records-back}
+use Rattle.desk_records.specs.RoundTrips.{HeldSlot, HeldSlots, records-back}
 
 -- ---- what bytes stand for, a program can hold
 none-held : HeldSlot noSlot

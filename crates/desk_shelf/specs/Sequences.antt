@@ -20,10 +20,10 @@ use Rattle.shelf.specs.Shelf as Shelf
 use Rattle.shelf.specs.Shelf.{ROOM, slotsAfter, imagesAfter}
 use Rattle.shelf.specs.Run as Run
 use Rattle.shelf.specs.April as April
-use Rattle.desk_shelf.specs.Records.{RECORDS, recordBytes, bytesOfRecords, recordAt, records}
+use Rattle.desk_records.specs.Records.{RECORDS, recordBytes, bytesOfRecords, recordAt, records}
 use Rattle.desk_shelf.specs.Calls as Calls
 use Rattle.desk_shelf.specs.Calls.{recordsAfter, savedImage, fetchNumber, fetchImage}
-use Rattle.desk_shelf.specs.RoundTrips.{HeldSlots}
+use Rattle.desk_records.specs.RoundTrips.{HeldSlots}
 use Rattle.desk_shelf.specs.Same.{Sound, records-held, set-held, hold-sound, letGo-sound, save-sound, sound-same}
 
 pub record Buffers : Type 0 where

@@ -1,69 +1,16 @@
 // The shelf for a player in C, over bytes that it lends: slot records of 5 bytes, images, an image. `desk` has these calls under C names.
 ghost use mathlib.Core.Path.{_≡_};
-ghost use Prim.Native.Nat.{_+_, _*_, _<_};
 ghost use lib.ListN.{length};
-ghost use lib.Seq.{sets};
 ghost use Rattle.shelf.specs.Shelf as Shelf;
-ghost use Rattle.desk_shelf.specs.Records as Records;
 ghost use Rattle.desk_shelf.specs.Calls as Calls;
-use slots::Slot;
-
-// How many bytes a record takes, and sixteen.
-const RECORD: usize = 5;
-
-pub const RECORDS: usize = slot_users::SLOTS * RECORD;
+use desk_records::RECORDS;
+use desk_records::read_records;
+use desk_records::write_records;
 
 // An image of another length; records, images or a slot's room of another length.
 const NO_IMAGE: u8 = 11;
 
 const NO_SHELF: u8 = 12;
-
-// Record k.
-fn record_at(records: &[u8], k: usize) -> Slot
-    requires { ⌜ k < 16 ⌝ ∗ ⌜ length (now records) ≡ Records.RECORDS ⌝ }
-    ensures { λ r. ⌜ r ≡ Records.recordAt (now (records .entry)) k ⌝ }
-{
-    let at = RECORD * k;
-    Slot {
-        users: records[at],
-        frame: floats::bits_at(records, at + 1),
-    }
-}
-
-// The sixteen records.
-pub fn read_records(records: &[u8]) -> [Slot; 16]
-    requires { ⌜ length (now records) ≡ Records.RECORDS ⌝ }
-    ensures { λ r. ⌜ r ≡ Records.records (now (records .entry)) ⌝ }
-{
-    let none = Slot { users: 0, frame: 0 };
-    let mut slots = [none; 16];
-    let mut k = 0;
-    while k < slot_users::SLOTS {
-        slots[k] = record_at(records, k);
-        k += 1;
-    }
-    slots
-}
-
-fn put_record(s: Slot, records: &mut [u8], k: usize)
-    requires { ⌜ k < 16 ⌝ ∗ ⌜ length (now records) ≡ Records.RECORDS ⌝ }
-    ensures { λ _. ⌜ now (records .exit) ≡ sets (now (records .entry)) (5 * k) (Records.recordBytes s) ⌝ }
-{
-    let at = RECORD * k;
-    records[at] = s.users;
-    image::put_long(s.frame, records, at + 1);
-}
-
-fn write_records(slots: [Slot; 16], records: &mut [u8])
-    requires { ⌜ length (now records) ≡ Records.RECORDS ⌝ }
-    ensures { λ _. ⌜ now (records .exit) ≡ Records.bytesOfRecords slots ⌝ }
-{
-    let mut k = 0;
-    while k < slot_users::SLOTS {
-        put_record(slots[k], records, k);
-        k += 1;
-    }
-}
 
 // The image is saved in the lowest slot without users, whose number goes to `slot`.
 pub fn save(records: &mut [u8], images: &mut [u8], image: &[u8], frame: u32, slot: &mut [u8]) -> u8
@@ -136,11 +83,11 @@ pub fn fetch(records: &[u8], images: &[u8], slot: u32, image: &mut [u8]) -> u8
         return NO_IMAGE;
     }
     if records.len() != RECORDS {
-        image::write(state::all_zero(), image);
+        image_write::write(state::all_zero(), image);
         return NO_SHELF;
     }
     let fetched = shelf::fetch_by_value(read_records(records), images, slot);
     let state = fetched.state;
-    image::write(state, image);
+    image_write::write(state, image);
     fetched.number
 }

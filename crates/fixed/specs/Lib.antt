@@ -9,8 +9,6 @@ pub mod Quotients
 pub mod Machine
 pub mod Bounds
 pub mod Sums
-pub mod PlainSums
-pub mod Runs
 pub mod Shifts
 pub mod Products
 pub mod Halves

@@ -1,36 +1,15 @@
--- The frames of a recording, and the state that some of them leave.
+-- The state that some of the frames of a recording leave.
 use Prim.Native.Nat.{ℕ, _≤_}
 use mathlib.Core.Path.{_≡_, refl, sym, ap, _∙_}
 use mathlib.Core.List.{List, [], _∷_, _++_}
-use mathlib.Core.Bool.{Bool, true, false, cond}
 use lib.IntN.{ℤ}
 use lib.ListN.{take, drop, take-append-drop}
 use lib.Seq.{take-take}
 use Rattle.stream.specs.Lines.{lines}
 use Rattle.stream.specs.Told.{after}
 use Rattle.state.specs.declared.State.{State}
-use Rattle.heard.specs.Recording.{isStart, Opening, opening, lineStep}
-
--- a recording's lines, a first `+` not among them
-unfoldable pub framesOf : List (List ℕ) → List (List ℕ)
-framesOf [] = []
-framesOf (line ∷ more) = cond (isStart line) more (line ∷ more)
-
-unfoldable pub frames : List ℕ → List (List ℕ)
-frames recording = framesOf (lines recording)
-
--- they are the lines that a recording's opening leaves for its calls
-pub frames-opening : (words : List ℤ) (bytes recording : List ℕ) → opening words bytes (lines recording) .lines ≡ frames recording
-unfolding frames framesOf opening
-frames-opening words bytes recording = by (lines recording)
-  where
-    of : (b : Bool) (r c : State) (line : List ℕ) (more : List (List ℕ)) → cond {A = Opening} b (record { state = r; lines = more }) (record { state = c; lines = line ∷ more }) .lines ≡ cond b more (line ∷ more)
-    of true r c line more = refl
-    of false r c line more = refl
-
-    by : (ls : List (List ℕ)) → opening words bytes ls .lines ≡ framesOf ls
-    by [] = refl
-    by (line ∷ more) = of (isStart line) _ _ line more
+use Rattle.heard.specs.Recording.{opening, lineStep}
+use Rattle.places.specs.Frames.{frames}
 
 module _ (words : List ℤ) (bytes : List ℕ) where
   -- the state that frames j up to k, k not among them, leave of s

@@ -5,7 +5,6 @@ ghost use Prim.Native.Nat.{_<_};
 ghost use lib.ListN.{length};
 ghost use Rattle.tables.specs.Sound.{Sound};
 ghost use Rattle.bits.specs.Widths.{InWidths};
-ghost use Rattle.tables.specs.SoundWords.{SoundWords};
 ghost use Rattle.observation.specs.Frame as Frame;
 use bits::FrameParams;
 use bits::HalfParams;
@@ -13,25 +12,6 @@ use half::Core;
 use observation::Both;
 use observation::Decoded;
 use observation::Step;
-
-// Whether refusal 7 has nothing against the four code indexes.
-pub fn digits_fit(words: &[i16], f: FrameParams) -> bool
-    requires { ⌜ SoundWords (now words) ⌝ }
-    ensures { λ r. ⌜ r ≡ Frame.digitsFit (now (words .entry)) f ⌝ }
-{
-    let p = f.first;
-    let q = f.second;
-    if !code_index::digits_fit(words, p.code0) {
-        return false;
-    }
-    if !code_index::digits_fit(words, p.code1) {
-        return false;
-    }
-    if !code_index::digits_fit(words, q.code0) {
-        return false;
-    }
-    code_index::digits_fit(words, q.code1)
-}
 
 // The residual that the fields of a half select.
 fn residual(words: &[i16], bytes: &[u8], p: HalfParams) -> [f32; 10]
@@ -58,7 +38,7 @@ fn predicted(
     requires { ⌜ Sound (now words) (now bytes) ⌝ ∗ ⌜ mode < 2 ⌝ }
     ensures { λ r. ⌜ r ≡ Frame.predicted (now (words .entry)) (now (bytes .entry)) (now (residuals .entry)) (now (residual .entry)) mode ⌝ }
 {
-    let lsf = spectral::predict(residuals, residual, bytes, mode as usize);
+    let lsf = frequencies::predict(residuals, residual, bytes, mode as usize);
     lsp::lsf_to_lsp(words, spectral::quantise_lsf(lsf))
 }
 

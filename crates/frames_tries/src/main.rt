@@ -15,7 +15,7 @@ fn wide(x: u8) -> u64 {
 
 // A word as a number that is not negative: one below 0 as 65,536 more than its size.
 fn lifted(x: i16) -> u64 {
-    let n = questions::size(questions::wide_word(x));
+    let n = numbers::size(numbers::wide_word(x));
     if x < 0 {
         return n % 65536 + 65536;
     }
@@ -201,7 +201,7 @@ fn all(words: &[i16], bytes: &[u8], start: State, frames: &[u8], size: usize)
 fn asked(x: i64) -> usize
     ensures { λ r. ⌜ r < 65536 ⌝ }
 {
-    (questions::size(x) % 65536) as usize
+    (numbers::size(x) % 65536) as usize
 }
 
 fn question(words: &[i16], bytes: &[u8], frames: &[u8], count: usize, n: [i64; 128]) {

@@ -13,7 +13,7 @@ use Rattle.tables.specs.Tables.{pitchGain, logGain, gainBias}
 use Rattle.gain.specs.declared.CodeGainArgument.{CodeGainArgument}
 use Rattle.gain.specs.declared.CodeGainArgument.the-variants.{Below, Above, Within}
 use Rattle.gain.specs.declared.Decoded.{Decoded}
-use Rattle.gain.specs.Elementary.{bits, add, sub, mul, div, ln, exp}
+use Rattle.elementary.specs.Elementary.{bits, add, sub, mul, div, ln, exp}
 
 -- z * z, as a natural number
 unfoldable pub square : ℤ → ℕ

@@ -17,7 +17,7 @@ use Rattle.floats.specs.Within.{Within, within→, →within, wider, held, held
 use Rattle.floats.specs.NoNan.{round-no-nan}
 use Rattle.tables.specs.Tables.{pitchGain, logGain, gainBias}
 use Rattle.tables.specs.Sound.{SoundBytes, log-gain-within, gain-bias-within}
-use Rattle.gain.specs.Elementary.{bits, add, div}
+use Rattle.elementary.specs.Elementary.{bits, add, div}
 use Rattle.gain.specs.Gain.{energy, squares, prediction, decode, amplitude, mean, initialHistory}
 use Rattle.gain.specs.Ranges.{Bounded, step-bounded, sorted-finite, amplitude-finite}
 

@@ -1,4 +1,3 @@
-pub mod Elementary
 pub mod Gain
 pub mod Sized
 pub mod Ranges

@@ -21,7 +21,7 @@ use Rattle.tables.specs.Tables.{pitchGain, logGain, gainBias}
 use Rattle.floats.specs.Quantised.{quantise-le}
 use Rattle.gain.specs.declared.CodeGainArgument.{CodeGainArgument}
 use Rattle.gain.specs.declared.CodeGainArgument.the-variants as Argument
-use Rattle.gain.specs.Elementary.{bits, add, ln, exp, scaled}
+use Rattle.elementary.specs.Elementary.{bits, add, ln, exp, scaled}
 use Rattle.gain.specs.Gain.{atLeastOne, weighted, prediction, argument, codeGain, step, energy, decode}
 use Rattle.gain.specs.Sized.{Sized, whole, pattern, small, plus, minus, times}
 

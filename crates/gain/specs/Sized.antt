@@ -13,7 +13,7 @@ use lib.Ieee as Ieee
 use lib.Ieee.Exact.{HasValue, odd-sign, round-exact}
 use lib.Ieee.Fits.{and-l, and-r}
 use Rattle.floats.specs.Within.{Within, Held, round-within, add-within, mul-within}
-use Rattle.gain.specs.Elementary.{bits, add, sub, mul}
+use Rattle.elementary.specs.Elementary.{bits, add, sub, mul}
 
 value-within : (x : Float) (s : Bool) (a c B : ℕ) → 0 < c → a ≤ B * c → HasValue x s a c → Within B x
 value-within nan s a c B C h v = absurd v

@@ -1,4 +1,4 @@
-// Functions of `gain` under C names, for tools/sweep and tools/compare_gain.
+// Functions of `elementary` and `gain_state` under C names, for tools/sweep and tools/compare_gain.
 ghost use mathlib.Core.Path.{_≡_};
 ghost use mathlib.Core.Bool.{not};
 ghost use Prim.Native.Nat.{_<_};
@@ -7,7 +7,7 @@ ghost use lib.ListN.{length};
 ghost use lib.Ieee.{isNan};
 ghost use lib.Ieee.Scale.{finite};
 ghost use Rattle.tables.specs.Places.{BYTES};
-ghost use Rattle.gain.specs.Elementary as Elementary;
+ghost use Rattle.elementary.specs.Elementary as Elementary;
 ghost use Rattle.gain.specs.Gain as Gain;
 
 // The logarithm, of any x but a NaN.
@@ -16,7 +16,7 @@ pub extern "C" fn gain_ln(x: f32) -> f32
     requires { ⌜ T (not (isNan x)) ⌝ }
     ensures { λ r. ⌜ r ≡ Elementary.ln x ⌝ }
 {
-    gain::ln(x)
+    elementary::ln(x)
 }
 
 // The exponential, of any finite x.
@@ -25,7 +25,7 @@ pub extern "C" fn gain_exp(x: f32) -> f32
     requires { ⌜ T (finite x) ⌝ }
     ensures { λ r. ⌜ r ≡ Elementary.exp x ⌝ }
 {
-    gain::exp(x)
+    elementary::exp(x)
 }
 
 // A gain step: the gain history is lent and changed, the pitch gain is written, the code gain returned.
@@ -42,7 +42,7 @@ pub extern "C" fn gain_decode(
     ensures pitch_gain { λ _. ⌜ now («pitch_gain» .exit) ≡ Gain.decode (now (bytes .entry)) (now (gains .entry)) index (now (code .entry)) .«pitch_gain» ⌝ }
     ensures gains { λ _. ⌜ now (gains .exit) ≡ Gain.decode (now (bytes .entry)) (now (gains .entry)) index (now (code .entry)) .gains ⌝ }
 {
-    let d = gain::decode(bytes, *gains, index, code);
+    let d = gain_state::decode(bytes, *gains, index, code);
     let next = d.gains;
     *gains = next;
     let p = d.pitch_gain;

@@ -1,7 +1,7 @@
-// How a recording begins, and what a line of it is answered with.
+// How a recording begins: from its table file, cold, or at reset behind a first `+`; and what a missed frame leaves.
 ghost use mathlib.Core.Path.{_≡_};
 ghost use mathlib.Core.Bool.{_&&_};
-ghost use Prim.Native.Nat.{_+_, _*_, _≤_, min};
+ghost use Prim.Native.Nat.{_≤_};
 ghost use lib.ListN.{length};
 ghost use Rattle.io.specs.Counts.{Counts};
 ghost use Rattle.tables.specs.Places.{WORDS};
@@ -10,7 +10,6 @@ ghost use Rattle.table_file.specs.File as File;
 ghost use Rattle.hex.specs.Held as Held;
 ghost use Rattle.heard.specs.Recording as Recording;
 ghost use Rattle.heard.specs.Start as Start;
-ghost use Rattle.calls.specs.Run.{heard};
 ghost use Rattle.state.specs.State.{missedFrame, reset};
 use hex::Line;
 use state::State;
@@ -97,54 +96,12 @@ pub fn begin(file: &[u8], words: &mut [i16], room: &mut [u8]) -> Started
     }
 }
 
-// A frame's call: its text goes over the beginning of out.
-fn hear(words: &[i16], bytes: &[u8], state: State, payload: [u8; 20], out: &mut [u8]) -> Said
-    requires { ⌜ 1283 ≤ length (now out) ⌝ }
-    ensures said { λ r. ⌜ r ≡ Start.called (now (words .entry)) (now (bytes .entry)) state (heard payload 320) ⌝ }
-    ensures text { λ _. ⌜ now (out .exit) ≡ over (Recording.text (now (words .entry)) (now (bytes .entry)) state (heard payload 320)) (now (out .entry)) ⌝ }
-    ensures fits { λ r. ⌜ r .n ≤ 1283 ⌝ }
-{
-    let mut samples = [0i16; 320];
-    let a = celp::decode(words, bytes, state, &payload, &mut samples);
-    let next = a.state;
-    let number = a.number;
-    if number != 0 {
-        return Said {
-            n: hex::put_refused(number, out),
-            state: next,
-        };
-    }
-    Said {
-        n: hex::put_frame(a.mark, &samples, out),
-        state: next,
-    }
-}
-
 // The state that a missed frame leaves.
 pub fn missed(state: State) -> State
     ensures { λ r. ⌜ r ≡ missedFrame state .state ⌝ }
 {
     let r = state::missed_frame(state);
     r.state
-}
-
-// A line's call: its text goes over the beginning of out.
-pub fn call(words: &[i16], bytes: &[u8], state: State, line: Line, out: &mut [u8]) -> Said
-    requires { ⌜ 1283 ≤ length (now out) ⌝ }
-    ensures said { λ r. ⌜ r ≡ Start.called (now (words .entry)) (now (bytes .entry)) state (Recording.event (Held.heldLine line)) ⌝ }
-    ensures text { λ _. ⌜ now (out .exit) ≡ over (Recording.lineText (now (words .entry)) (now (bytes .entry)) state (Held.heldLine line)) (now (out .entry)) ⌝ }
-    ensures fits { λ r. ⌜ r .n ≤ 1283 ⌝ }
-    ensures paid { λ r. ⌜ r .n ≤ 32 * min (line .n) 41 + 32 ⌝ }
-{
-    if hex::held_frame(line) {
-        let text = line.text;
-        return hear(words, bytes, state, hex::payload(text), out);
-    }
-    let next = missed(state);
-    Said {
-        n: hex::put_refused(9, out),
-        state: next,
-    }
 }
 
 // The state that a recording begins in whose call was heard from its start.

@@ -1,4 +1,3 @@
 mod Flipped
 mod Loops
-mod Nans
 mod Whole

@@ -57,8 +57,8 @@ fn figures(bytes: &[u8], t: SubframeTrace) -> [f32; 12]
     let innovation = t.innovation;
     let lag = t.lag;
     let correction = tables::log_gain(bytes, index);
-    let amplitude = gain::amplitude(bytes, v, index);
-    let energy = gain::energy(&innovation);
+    let amplitude = gain_state::amplitude(bytes, v, index);
+    let energy = gain_state::energy(&innovation);
     [
         index as f32,
         correction,

@@ -1,5 +1,2 @@
-mod Fraction
 mod Naturals
-mod Taps
-mod Filter
-mod Again
+mod Fraction

@@ -6,7 +6,7 @@ use lib.IntN.{ℤ, pos, negsuc}
 use lib.ListN.{replicate}
 use Rattle.sequence.specs.Total.{total}
 use Rattle.sequence.specs.Table.{table}
-use Rattle.fixed.specs.Fixed.{residue, signed, wrap, fold, mul, mul32x16, shift}
+use Rattle.fixed.specs.Fixed.{residue, signed, wrap, clamp, fold, mul, mul32x16, shift}
 use Rattle.pitch.specs.Pitch.{thirds, decodeAbsolute, lowest, decodeRelative, before, after, interpolatedSample, mixed}
 
 pub case-1 : decodeAbsolute 0 ≡ record { integer = pos 19; frac = pos 1 }
@@ -52,12 +52,12 @@ phase-2 : interpolatedSample taps 2 signal 9 ≡ pos 24
 unfolding signal taps interpolatedSample before after total table fold mul wrap signed residue
 phase-2 = refl
 
--- 1 and a value of 32,767 in the high half, whose gain of one half is doubled: 32,768 is cut and not saturated
+-- 1 and a value of 32,767 in the high half, whose gain of one half is doubled: 32,768 is cut and not saturated, which would give 32,767 (`clamp` unfolds, so that it would be seen)
 cut : mixed (pos 2147418112) (pos 16384) (pos 1) ≡ negsuc 32767
-unfolding mixed shift mul32x16 wrap signed residue
+unfolding mixed clamp shift mul32x16 wrap signed residue
 cut = refl
 
 -- of a value above 32 bits the low 32 count
 wide : mixed (pos 4295032832) (pos 16384) (pos 0) ≡ pos 1
-unfolding mixed shift mul32x16 wrap signed residue
+unfolding mixed clamp shift mul32x16 wrap signed residue
 wide = refl

@@ -1,5 +1,4 @@
 pub mod Pitch
-pub mod Window
 pub mod Lags
 pub mod Kept
 pub mod Reads

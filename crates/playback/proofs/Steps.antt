@@ -25,10 +25,12 @@ use Rattle.slot_users.specs.Users.{SLOTS}
 use Rattle.shelf.specs.Shelf.{number, slotsAfter}
 use Rattle.shelf.specs.Shelf as Calls
 use Rattle.shelf.specs.Run.{Shelf, after, hold, letGo}
-use Rattle.forward.specs.Forward.{frames, before}
-use Rattle.forward.specs.Places.{lineEnd, line-at, lines-at, behind-is, event-long, step-held}
+use Rattle.places.specs.Frames.{frames}
+use Rattle.places.specs.Places.{lineEnd, line-at, lines-at, behind-is}
+use Rattle.forward.specs.Forward.{before}
+use Rattle.forward.specs.Gone.{event-long, step-held}
 use Rattle.seek.specs.declared.Sought.{Sought}
-use Rattle.seek.specs.Best.{best}
+use Rattle.best_save.specs.Best.{best}
 use Rattle.seek.specs.Seek.{notSought}
 use Rattle.commands.specs.declared.Command.{Command}
 use Rattle.commands.specs.Commands.{command}

@@ -19,9 +19,10 @@ use Rattle.heard.specs.Recording.{lineStep, lineText, tablesText}
 use Rattle.slot_users.specs.Users.{SLOTS}
 use Rattle.shelf.specs.Shelf.{number}
 use Rattle.shelf.specs.Run.{Shelf, zeros, after, hold, letGo, holding, lettingGo}
-use Rattle.forward.specs.Forward.{frames, before}
+use Rattle.places.specs.Frames.{frames}
+use Rattle.forward.specs.Forward.{before}
 use Rattle.seek.specs.declared.Sought.{Sought}
-use Rattle.seek.specs.Best.{best}
+use Rattle.best_save.specs.Best.{best}
 use Rattle.seek.specs.Seek.{notSought, seek}
 use Rattle.commands.specs.declared.Command.{Command}
 use Rattle.commands.specs.Commands.{unknown, command}

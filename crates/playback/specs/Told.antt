@@ -24,8 +24,8 @@ use Rattle.heard.specs.Recording.{lineStep, lineText, tablesText}
 use Rattle.heard.specs.Start as Start
 use Rattle.shelf.specs.Run.{Shelf}
 use Rattle.shelf.specs.Run as Run
-use Rattle.forward.specs.Forward.{frames}
-use Rattle.forward.specs.Places.{lineEnd, end-nil, end-newline, end-other, kept-more}
+use Rattle.places.specs.Frames.{frames}
+use Rattle.places.specs.Places.{lineEnd, end-nil, end-newline, end-other, kept-more}
 use Rattle.commands.specs.declared.Command.{Command}
 use Rattle.commands.specs.Commands.{command, argument, starts, unknown}
 use Rattle.replies.specs.Replies.{answered}

@@ -16,7 +16,7 @@ use Rattle.heard.specs.Recording.{lineStep, lineText}
 use Rattle.slots.specs.Slots.{noSlot}
 use Rattle.slot_users.specs.Users.{SLOTS}
 use Rattle.shelf.specs.Run.{Shelf}
-use Rattle.forward.specs.Places.{lineEnd}
+use Rattle.places.specs.Places.{lineEnd}
 use Rattle.commands.specs.declared.Command.{Command}
 use Rattle.commands.specs.Commands.{command}
 use Rattle.replies.specs.declared.Cue.{Cue}

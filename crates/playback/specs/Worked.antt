@@ -13,7 +13,7 @@ use Rattle.heard.specs.Recording.{tablesText}
 use Rattle.slot_users.specs.Users as Users
 use Rattle.shelf.specs.Shelf as Shelf
 use Rattle.shelf.specs.Run as Run
-use Rattle.seek.specs.Best.{fits, better, bestOf, best}
+use Rattle.best_save.specs.Best.{fits, better, bestOf, best}
 use Rattle.seek.specs.Seek.{seekLent, seek}
 use Rattle.commands.specs.Commands.{more, numberFrom, number, starts, argument, command}
 use Rattle.replies.specs.Replies.{answered}

@@ -72,13 +72,13 @@ fn frame(words: &[i16], bytes: &[u8], cue: Cue, recording: &[u8], room: &mut [u8
 {
     let state = cue.state;
     let a = cue.place;
-    let e = forward::line_end(recording, a);
-    let said = heard::call(words, bytes, state, forward::held(&recording[a..e]), room);
+    let e = places::line_end(recording, a);
+    let said = hearing::call(words, bytes, state, places::held(&recording[a..e]), room);
     let next = said.state;
     Played {
         cue: Cue {
             state: next,
-            place: forward::behind(recording, e),
+            place: places::behind(recording, e),
             left: cue.left - 1,
         },
         n: said.n,
@@ -100,10 +100,10 @@ fn found(
         count: SLOTS,
         slots,
     };
-    if seek::best(r, k) < SLOTS {
+    if best_save::best(r, k) < SLOTS {
         return seek::seek_by_value(words, bytes, slots, images, recording, k);
     }
-    if forward::has_frame(recording, k) {
+    if places::has_frame(recording, k) {
         return Sought {
             number: 0,
             state: forward::before(words, bytes, recording, k),
@@ -130,7 +130,7 @@ fn save(
     ensures { λ _. ⌜ now (images .exit) ≡ Replies.saveLeft (Promised.shelf slots (now (images .entry))) k (Playback.found (now (words .entry)) (now (bytes .entry)) (now (recording .entry)) (Promised.shelf slots (now (images .entry))) k) .images ⌝ }
 {
     let s = found(words, bytes, slots, images, recording, k);
-    replies::keep(s, slots, images, k, room)
+    sought::keep(s, slots, images, k, room)
 }
 
 // A command: its text goes over the beginning of room, but for the frames that it leaves to play.
@@ -161,7 +161,7 @@ fn obey(
     }
     if c.kind == commands::PLAY {
         let s = seek::seek_by_value(words, bytes, slots, images, recording, c.k);
-        return replies::begin_play(s, slots, recording, c.k, c.n, room);
+        return sought::begin_play(s, slots, recording, c.k, c.n, room);
     }
     replies::wonder(slots, room)
 }
@@ -248,7 +248,7 @@ fn take(
         }
         return end_line(words, bytes, slots, images, recording, line, 0, room);
     }
-    let k = forward::line_end(chunk, 0);
+    let k = places::line_end(chunk, 0);
     let more = push_all(line, &chunk[..k]);
     if k == chunk.len() {
         return Turned {

@@ -40,7 +40,7 @@ fn end_line(
             state: heard::reset(words, bytes),
         };
     }
-    heard::call(words, bytes, state, line, out)
+    hearing::call(words, bytes, state, line, out)
 }
 
 // A chunk of the input: all its text goes over the beginning of room.

@@ -15,7 +15,7 @@ fn answer(q: Question) {
         0 => of_fixed::answer(n),
         1 => of_synth::answer(n, count),
         2 => of_bits::answer(n),
-        _ => questions::say(&[]),
+        _ => numbers::say(&[]),
     }
 }
 

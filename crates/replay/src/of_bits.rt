@@ -3,9 +3,9 @@ use bits::FrameParams;
 use bits::HalfParams;
 use bits::Unpacked;
 use libc::STDOUT_FILENO;
-use questions::end_line;
-use questions::say;
-use questions::say_numbers;
+use numbers::end_line;
+use numbers::say;
+use numbers::say_numbers;
 ghost use mathlib.Core.Path.{_≡_};
 ghost use lib.ListN.{length};
 
@@ -79,12 +79,12 @@ fn say_bytes(b: &[u8]) {
 // The gain index after a blank.
 fn say_gain_index(h: HalfParams, sub: usize) {
     io::write_all(STDOUT_FILENO, b" ");
-    io::print_decimal(STDOUT_FILENO, bits::gain_index(h, sub) as u64);
+    io::print_decimal(STDOUT_FILENO, frame_params::gain_index(h, sub) as u64);
 }
 
 fn accepted(f: FrameParams) {
     let mut room = [0u8; 20];
-    bits::pack(f, &mut room);
+    frame_params::pack(f, &mut room);
     let x = f.first;
     let y = f.second;
     say_numbers(&halves(0, x, y));
@@ -116,7 +116,7 @@ fn zero() -> HalfParams {
 pub fn answer(n: [i64; 128]) {
     let mut room = [0u8; 20];
     payload(n, &mut room);
-    match bits::unpack(&room) {
+    match frame_params::unpack(&room) {
         Unpacked::Fields(f) => accepted(f),
         Unpacked::Refused(k) => say(&halves(wide(k), zero(), zero())),
     }

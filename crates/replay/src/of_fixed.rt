@@ -1,6 +1,6 @@
 // The answers of fixed: the operation's number, then its arguments.
-use questions::say;
-use questions::wide_word;
+use numbers::say;
+use numbers::wide_word;
 
 fn word(x: i64) -> i16 {
     fixed::low(x)

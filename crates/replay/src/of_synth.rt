@@ -1,7 +1,7 @@
 // The answers of synth: eleven coefficients, ten of memory, the inputs; out come the outputs and the memory.
-use questions::end_line;
-use questions::say_words;
-use questions::words;
+use numbers::end_line;
+use numbers::say_words;
+use numbers::words;
 
 fn filtered(a: &[i16], input: &[i16], output: &mut [i16], mem: &mut [i16]) {
     if a.len() != 11 {
@@ -16,7 +16,7 @@ fn filtered(a: &[i16], input: &[i16], output: &mut [i16], mem: &mut [i16]) {
     if output.len() != input.len() {
         return;
     }
-    synth::synthesis(a, input, output, mem);
+    synthesis::synthesis(a, input, output, mem);
     say_words(output, false);
     say_words(mem, 0 < input.len());
     end_line();

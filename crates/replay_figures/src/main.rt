@@ -17,7 +17,7 @@ fn answer(words: &[i16], bytes: &[u8], q: Question)
     match n[0] {
         9 => of_spectral::answer(words, bytes, n),
         10 => of_gain::answer(bytes, n),
-        _ => questions::say(&[]),
+        _ => numbers::say(&[]),
     }
 }
 

@@ -3,11 +3,11 @@
 use fixed::magnitude;
 use gain::Decoded;
 use libc::STDOUT_FILENO;
-use questions::floats_from;
-use questions::say_floats;
-use questions::say_numbers;
-use questions::wide_word;
-use questions::words;
+use numbers::floats_from;
+use numbers::say_floats;
+use numbers::say_numbers;
+use numbers::wide_word;
+use numbers::words;
 ghost use mathlib.Core.Path.{_≡_};
 ghost use Prim.Native.Nat.{_<_};
 ghost use lib.ListN.{length};
@@ -30,7 +30,7 @@ fn decoded(bytes: &[u8], n: [i64; 128]) -> Decoded
 {
     let mut code = [0i16; 80];
     words(n, 7, &mut code);
-    gain::decode(bytes, history(n), index(n[2]), &code)
+    gain_state::decode(bytes, history(n), index(n[2]), &code)
 }
 
 fn say_decoded(d: Decoded) {
@@ -45,6 +45,6 @@ pub fn answer(bytes: &[u8], n: [i64; 128])
 {
     match n[1] {
         0 => say_decoded(decoded(bytes, n)),
-        _ => say_floats(&gain::initial_history(bytes)),
+        _ => say_floats(&gain_state::initial_history(bytes)),
     }
 }

@@ -1,9 +1,9 @@
 // The answers of spectral: 0 residual of three indexes, 1 predict of a mode, 30 of history and ten of residual,
 // 2 the pairs of ten, quantised, as the Rust's to_lsp gives them, 3 the history at the start, 4 push of 30 and ten.
 use fixed::magnitude;
-use questions::floats_from;
-use questions::say_floats;
-use questions::say_line;
+use numbers::floats_from;
+use numbers::say_floats;
+use numbers::say_line;
 ghost use mathlib.Core.Path.{_≡_};
 ghost use Prim.Native.Nat.{_+_, _<_, _≤_};
 ghost use lib.ListN.{length};
@@ -54,7 +54,7 @@ fn predicted(bytes: &[u8], n: [i64; 128]) -> [f32; 10]
 {
     let history = thirty(n, 3);
     let residual = ten(n, 33);
-    spectral::predict(&history, &residual, bytes, mode(n[2]))
+    frequencies::predict(&history, &residual, bytes, mode(n[2]))
 }
 
 // The ten quantised, and their pairs.

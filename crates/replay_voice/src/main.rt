@@ -25,7 +25,7 @@ fn answer(words: &[i16], other: &[i16], q: Question)
         6 => of_excitation::answer(n),
         7 => of_postfilter::answer(words, n),
         8 => of_pitch::answer(other, n),
-        _ => questions::say(&[]),
+        _ => numbers::say(&[]),
     }
 }
 

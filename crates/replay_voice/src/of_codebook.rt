@@ -1,9 +1,9 @@
 // The answers of codebook: an index; out comes 0 where a digit does not fit, else 1, the class and the innovation.
 use code_index::Innovation;
 use libc::STDOUT_FILENO;
-use questions::end_line;
-use questions::say;
-use questions::say_words;
+use numbers::end_line;
+use numbers::say;
+use numbers::say_words;
 ghost use Rattle.tables.specs.SoundWords.{SoundWords};
 
 fn index(x: i64) -> u16 {

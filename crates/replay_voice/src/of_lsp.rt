@@ -1,9 +1,9 @@
 // The answers of lsp: 0 lsf_to_lsp of ten, 1 lsp_to_lpc of ten, 2 midpoint of ten and ten, 3 reflection_coefficients of eleven,
 // and how many of its residuals are 0.
 use libc::STDOUT_FILENO;
-use questions::end_line;
-use questions::say_line;
-use questions::say_words;
+use numbers::end_line;
+use numbers::say_line;
+use numbers::say_words;
 use reflection::Reflection;
 ghost use mathlib.Core.Path.{_≡_};
 ghost use Prim.Native.Nat.{ℕ, _+_, _<_, _≤_};
@@ -35,13 +35,13 @@ fn ten(n: [i64; 128], from: usize) -> [i16; 10]
     requires { ⌜ from + 10 ≤ 128 ⌝ }
 {
     let mut w = [0i16; 10];
-    questions::words(n, from, &mut w);
+    numbers::words(n, from, &mut w);
     w
 }
 
 fn eleven(n: [i64; 128]) -> [i16; 11] {
     let mut w = [0i16; 11];
-    questions::words(n, 2, &mut w);
+    numbers::words(n, 2, &mut w);
     w
 }
 
@@ -60,6 +60,6 @@ pub fn answer(words: &[i16], n: [i64; 128])
         0 => say_line(&lsp::lsf_to_lsp(words, frequencies(n))),
         1 => say_line(&lsp::lsp_to_lpc(ten(n, 2))),
         2 => say_line(&lsp::midpoint(ten(n, 2), ten(n, 12))),
-        _ => say_reflection(reflection::reflection_coefficients(eleven(n))),
+        _ => say_reflection(levinson::reflection_coefficients(eleven(n))),
     }
 }

@@ -1,9 +1,9 @@
 // The answers of pitch: an absolute code, or from 256 on a lag integer before; a relative code or -1; then nothing, and out comes the lag,
 // or 2 and a seed, and out comes the prediction from its samples, or 3, a seed and a gain, and out come its samples, sharpened.
 use fixed::magnitude;
+use numbers::samples;
+use numbers::say_line;
 use pitch::Lag;
-use questions::samples;
-use questions::say_line;
 ghost use mathlib.Core.Path.{_≡_};
 ghost use Prim.Native.Nat.{_<_};
 ghost use lib.ListN.{length};
@@ -58,7 +58,7 @@ fn say_prediction(words: &[i16], l: Lag, seed: u64)
 {
     let mut exc = [0i16; 234];
     samples(seed, &mut exc);
-    pitch::predict(words, &mut exc, 154, l);
+    adaptive::predict(words, &mut exc, 154, l);
     say_line(&exc[154..]);
 }
 
@@ -67,7 +67,7 @@ fn say_sharpened(words: &[i16], l: Lag, seed: u64, gain: i16)
 {
     let mut code = [0i16; 80];
     samples(seed, &mut code);
-    pitch::sharpen(words, &mut code, l, gain);
+    adaptive::sharpen(words, &mut code, l, gain);
     say_line(&code);
 }
 

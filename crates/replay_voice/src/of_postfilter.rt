@@ -1,8 +1,8 @@
 // The answers of postfilter: a seed; out come 16 of its samples, filtered after 24 that the seed 1000 on gives.
 use fixed::magnitude;
+use numbers::samples;
+use numbers::say_line;
 use output_filter::OutputFilter;
-use questions::samples;
-use questions::say_line;
 ghost use mathlib.Core.Path.{_≡_};
 ghost use lib.ListN.{length};
 ghost use Rattle.tables.specs.Places.{WORDS};

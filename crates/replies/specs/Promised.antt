@@ -11,7 +11,7 @@ use Rattle.state.specs.declared.State.{State}
 use Rattle.state.specs.State.{allZero}
 use Rattle.slots.specs.declared.Slot.{Slot}
 use Rattle.shelf.specs.Run.{Shelf}
-use Rattle.forward.specs.Forward.{frames}
+use Rattle.places.specs.Frames.{frames}
 use Rattle.seek.specs.declared.Sought.{Sought}
 use Rattle.replies.specs.declared.Cue.{Cue}
 use Rattle.replies.specs.declared.Obeyed.{Obeyed}

@@ -1,8 +1,10 @@
 -- What a command of the player is answered: the words, and what is said of a save.
 use Prim.Native.Nat.{ℕ}
+use mathlib.Core.Path.{_≡_}
 use mathlib.Core.List.{List, [], _∷_, _++_}
 use mathlib.Core.Bool.{cond}
 use lib.Dec.{eqb}
+use borrow.Author.Tests.{eq-eqb, ne-eqb}
 use Rattle.stream.specs.Decimal.{decimal, figure}
 use Rattle.shelf.specs.Shelf.{number, slotOf}
 use Rattle.shelf.specs.Run.{Shelf, after, save, saving}
@@ -33,6 +35,14 @@ unknownLine = 117 ∷ 110 ∷ 107 ∷ 110 ∷ 111 ∷ 119 ∷ 110 ∷ 10 ∷ []
 -- `refused N` for a refusal's number, or what an accepted command is answered
 unfoldable pub answered : ℕ → List ℕ → List ℕ
 answered n text = cond (eqb n 0) text (figure refusedWord n)
+
+pub answered-yes : (n : ℕ) (text : List ℕ) → n ≡ 0 → answered n text ≡ text
+unfolding answered
+answered-yes n text e = rw (eq-eqb n 0 e)
+
+pub answered-no : (n : ℕ) (text : List ℕ) → (n ≡ 0 → ⊥) → answered n text ≡ figure refusedWord n
+unfolding answered
+answered-no n text z = rw (ne-eqb n 0 z)
 
 -- `frame K mark M`
 unfoldable pub frameMark : ℕ → ℕ → List ℕ

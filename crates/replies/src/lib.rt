@@ -1,6 +1,5 @@
 // What a command of the player is answered: its text, the records of the shelf after it, and what it leaves to play.
 ghost use mathlib.Core.Path.{_≡_};
-ghost use mathlib.Core.List.{[]};
 ghost use Prim.Native.Nat.{_≤_};
 ghost use lib.ListN.{length};
 ghost use Rattle.stream.specs.Decimal.{figure};
@@ -38,7 +37,7 @@ pub fn silence() -> Cue
 }
 
 // `refused N`, or where nothing is refused a line of a name and a number.
-fn put_answer(number: u8, name: &[u8], value: u32, room: &mut [u8]) -> usize
+pub fn put_answer(number: u8, name: &[u8], value: u32, room: &mut [u8]) -> usize
     requires { ⌜ length (now name) ≤ 8 ⌝ ∗ ⌜ 64 ≤ length (now room) ⌝ }
     ensures { λ r. ⌜ Promised.Put (Replies.answered number (figure (now (name .entry)) value)) (now (room .entry)) r (now (room .exit)) ⌝ }
 {
@@ -56,31 +55,6 @@ fn put_frame_mark(k: u32, mark: u8, room: &mut [u8]) -> usize
     let a = stream::put_at(b"frame ", 0, room);
     let b = stream::put_decimal(k as u64, a, room);
     stream::put_figure(b" mark ", mark as u64, b, room)
-}
-
-// A state is saved, or the refusal of what was looked for is told.
-pub fn keep(s: Sought, slots: [Slot; 16], images: &mut [u8], k: u32, room: &mut [u8]) -> Obeyed
-    requires { ⌜ 64 ≤ length (now room) ⌝ }
-    ensures { λ r. ⌜ Promised.Quiet (Replies.saveLeft (Promised.shelf slots (now (images .entry))) k s .slots) (Replies.saveSaid (Promised.shelf slots (now (images .entry))) k s) (now (room .entry)) r (now (room .exit)) ⌝ }
-    ensures { λ _. ⌜ now (images .exit) ≡ Replies.saveLeft (Promised.shelf slots (now (images .entry))) k s .images ⌝ }
-{
-    let number = s.number;
-    if number != 0 {
-        return Obeyed {
-            slots,
-            cue: silence(),
-            n: put_answer(number, b"saved ", 0, room),
-        };
-    }
-    let state = s.state;
-    let a = shelf::save_by_value(slots, images, state, k);
-    let answer = a.answer;
-    let after = a.slots;
-    Obeyed {
-        slots: after,
-        cue: silence(),
-        n: put_answer(answer.number, b"saved ", answer.slot, room),
-    }
 }
 
 // `hold S`
@@ -131,38 +105,6 @@ pub fn tell(s: Sought, slots: [Slot; 16], k: u32, room: &mut [u8]) -> Obeyed
         slots,
         cue: silence(),
         n: put_frame_mark(k, state.mark, room),
-    }
-}
-
-// `play K N`, of what was found: the frames are left to play.
-pub fn begin_play(
-    s: Sought,
-    slots: [Slot; 16],
-    recording: &[u8],
-    k: u32,
-    n: u32,
-    room: &mut [u8],
-) -> Obeyed
-    requires { ⌜ 64 ≤ length (now room) ⌝ }
-    ensures { λ r. ⌜ Promised.Cues slots (now (recording .entry)) (Promised.cued (now (recording .entry)) s k n) (Replies.answered (s .number) []) (now (room .entry)) r (now (room .exit)) ⌝ }
-{
-    let number = s.number;
-    if number != 0 {
-        return Obeyed {
-            slots,
-            cue: silence(),
-            n: put_answer(number, b"frame ", 0, room),
-        };
-    }
-    let state = s.state;
-    Obeyed {
-        slots,
-        cue: Cue {
-            state,
-            place: forward::place_of(recording, k),
-            left: n,
-        },
-        n: 0,
     }
 }
 

@@ -18,9 +18,10 @@ use Rattle.slot_users.specs.Users.{SLOTS, users, slotAt}
 use Rattle.slot_users.specs.Held.{held-yes}
 use Rattle.shelf.specs.declared.Fetched.{Fetched}
 use Rattle.shelf.specs.Shelf.{ROOM, stateAt, lent, judged, notFetched, fetchLent, fetch}
-use Rattle.forward.specs.Forward.{frames, forward}
+use Rattle.places.specs.Frames.{frames}
+use Rattle.forward.specs.Forward.{forward}
 use Rattle.seek.specs.declared.Sought.{Sought}
-use Rattle.seek.specs.Best.{fits, best, best-means}
+use Rattle.best_save.specs.Best.{fits, best, best-means}
 use Rattle.seek.specs.Seek.{notSought, ofSet, fromSave, seekLent, seek}
 
 module _ {A : Type 0} (count room : ℕ) (refuses : ℕ → A) (a : A) where

@@ -21,9 +21,10 @@ use Rattle.slots.specs.declared.Slot.{Slot}
 use Rattle.slot_users.specs.Users.{SLOTS, slotAt}
 use Rattle.shelf.specs.Shelf.{ROOM, stateAt, lent, judged}
 use Rattle.shelf.specs.Cases.{is-lent}
-use Rattle.forward.specs.Forward.{frames, forward, before, forward-before}
+use Rattle.places.specs.Frames.{frames}
+use Rattle.forward.specs.Forward.{forward, before, forward-before}
 use Rattle.seek.specs.declared.Sought.{Sought}
-use Rattle.seek.specs.Best.{fits, best, best-means, none-means}
+use Rattle.best_save.specs.Best.{fits, best, best-means, none-means}
 use Rattle.seek.specs.Seek.{notSought, ofSet, saved, savedAt, fromSave, seekLent, seek}
 
 no : (b : Bool) → b ≡ true → b ≡ false → ⊥

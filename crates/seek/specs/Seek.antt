@@ -11,8 +11,9 @@ use Rattle.state.specs.State.{allZero, obeys}
 use Rattle.slots.specs.declared.Slot.{Slot}
 use Rattle.slot_users.specs.Users.{SLOTS, slotAt}
 use Rattle.shelf.specs.Shelf.{stateAt, judged}
-use Rattle.forward.specs.Forward.{frames, forward}
-use Rattle.seek.specs.Best.{best}
+use Rattle.places.specs.Frames.{frames}
+use Rattle.forward.specs.Forward.{forward}
+use Rattle.best_save.specs.Best.{best}
 use Rattle.seek.specs.declared.Sought.{Sought}
 
 -- a refusal gives the all-zero state

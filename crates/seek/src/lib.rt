@@ -1,61 +1,15 @@
-// Seeking frame k of a recording: from the save that serves best forward to it. That save is, of the held ones at or below k, the one with the largest frame
-// number, of equal ones the one of the lowest slot.
+// Seeking frame k of a recording: from the save that serves best forward to it.
 ghost use mathlib.Core.Path.{_≡_};
 ghost use Prim.Native.Nat.{_<_};
 ghost use lib.ListN.{length};
 ghost use Rattle.shelf.specs.Shelf as Shelf;
-ghost use Rattle.seek.specs.Best as Best;
+ghost use Rattle.best_save.specs.Best as Best;
 ghost use Rattle.seek.specs.Seek as Seek;
 use shelf::ROOM;
 use slot_users::SLOTS;
 use slots::Records;
 use slots::Slot;
 use state::State;
-
-// The best so far: its slot, 16 for none, and its frame number.
-struct Save {
-    at: usize,
-    frame: u32,
-}
-
-// Slot j, with the record s, beside the best before it.
-fn better(b: Save, j: usize, s: Slot, k: u32) -> Save
-    ensures { λ r. ⌜ r ≡ Best.better k b j s ⌝ }
-{
-    if s.users == 0 {
-        return b;
-    }
-    if k < s.frame {
-        return b;
-    }
-    if b.at < SLOTS {
-        if s.frame <= b.frame {
-            return b;
-        }
-    }
-    Save {
-        at: j,
-        frame: s.frame,
-    }
-}
-
-// The slot of the best save, or 16 where none is held at or below k.
-pub fn best(r: Records, k: u32) -> usize
-    ensures { λ b. ⌜ b ≡ Best.best (r .slots) k ⌝ }
-{
-    let slots = r.slots;
-    let mut b = Save {
-        at: SLOTS,
-        frame: 0,
-    };
-    let mut j = 0;
-    while j < SLOTS {
-        let s = slots[j];
-        b = better(b, j, s, k);
-        j += 1;
-    }
-    b.at
-}
 
 // What a seek answers: a refusal number and the all-zero state, or 0 and the state that frame k will be decoded with.
 pub struct Sought {
@@ -113,11 +67,11 @@ fn seeking(
     if images.len() != ROOM {
         return not_sought(12);
     }
-    let b = best(r, k);
+    let b = best_save::best(r, k);
     if SLOTS <= b {
         return not_sought(15);
     }
-    if !forward::has_frame(recording, k) {
+    if !places::has_frame(recording, k) {
         return not_sought(15);
     }
     let number = rules::check(words, bytes);

@@ -72,7 +72,7 @@ fn store(images: &mut [u8], k: usize, state: State)
 {
     let a = SIZE * k;
     let e = a + SIZE;
-    image::write(state, &mut images[a..e]);
+    image_write::write(state, &mut images[a..e]);
 }
 
 // Slot k's image is read.

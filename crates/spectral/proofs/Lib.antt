@@ -1,3 +1,1 @@
-mod Insertion
-mod Spacing
 mod Largest

@@ -132,7 +132,7 @@ fn initial(words: &[i16], bytes: &[u8], mark: u8) -> State
 {
     let lsp = lsp_mean(words);
     let residuals = spectral::initial(words);
-    let gains = gain::initial_history(bytes);
+    let gains = gain_state::initial_history(bytes);
     State {
         lsp,
         excitation: [0; 154],

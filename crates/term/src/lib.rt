@@ -25,23 +25,7 @@ fn hear(words: &[i16], bytes: &[u8], state: State, payload: [u8; 20], tally: Tal
 {
     let mut samples = [0i16; 320];
     let a = celp::decode(words, bytes, state, &payload, &mut samples);
-    let next = a.state;
-    let number = a.number;
-    let t = tally::numbered(tally, number);
-    if number != 0 {
-        return Place {
-            first: false,
-            state: next,
-            tally: t,
-        };
-    }
-    let s = a.subframes;
-    let c = a.clipped;
-    Place {
-        first: false,
-        state: next,
-        tally: tally::with_frame(t, s, c),
-    }
+    outcomes::answered(a, tally)
 }
 
 // A line that is a frame, or a missed one.
@@ -57,7 +41,7 @@ fn call(words: &[i16], bytes: &[u8], state: State, line: Line, tally: Tally) -> 
     Place {
         first: false,
         state: next,
-        tally: tally::numbered(tally, 9),
+        tally: counting::numbered(tally, 9),
     }
 }
 
@@ -72,30 +56,19 @@ fn end_line(
 ) -> Place
     ensures { λ r. ⌜ r ≡ Steps.lineEnded (now (words .entry)) (now (bytes .entry)) first state tally (Held.heldLine line) ⌝ }
 {
+    let place = Place {
+        first,
+        state,
+        tally,
+    };
     if tally::full(tally) {
-        return Place {
-            first,
-            state,
-            tally,
-        };
+        return place;
     }
     if hex::is_only(line, b'=') {
-        let start = state::cold_start(words, bytes);
-        let next = start.state;
-        return Place {
-            first: true,
-            state: next,
-            tally: tally::uncounted(tally),
-        };
+        return outcomes::ended(words, bytes, place);
     }
     if heard::is_opening(first, line) {
-        let whole = state::reset(words, bytes);
-        let next = whole.state;
-        return Place {
-            first: false,
-            state: next,
-            tally: tally::uncounted(tally),
-        };
+        return outcomes::opened(words, bytes, place);
     }
     call(words, bytes, state, line, tally)
 }
@@ -113,7 +86,7 @@ pub fn begin(file: &[u8], words: &mut [i16], room: &mut [u8]) -> Started
     let recorder = start.recorder;
     let state = recorder.state;
     let line = recorder.line;
-    let tally = tally::empty();
+    let tally = counting::empty();
     Started {
         recorder: Recorder {
             first: recorder.first,

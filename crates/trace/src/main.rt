@@ -5,9 +5,9 @@ use calls::Answer;
 use half::Clipped;
 use hex::Line;
 use libc::STDOUT_FILENO;
+use numbers::size;
+use numbers::wide_word;
 use observation::Subframe;
-use questions::size;
-use questions::wide_word;
 use state::State;
 
 fn core_lines(out: &mut [u8; 4096], s: State) -> usize {
@@ -390,7 +390,7 @@ fn floats(out: &mut [u8; 4096], at: usize, name: &[u8], w: &[f32]) -> usize {
     let mut n = text(out, at, name);
     let mut i = 0;
     while i < w.len() {
-        n = number(out, n, wide_bits(questions::to_bits(w[i])));
+        n = number(out, n, wide_bits(numbers::to_bits(w[i])));
         i += 1;
     }
     end(out, n)

@@ -1,7 +1,7 @@
 // Two channels on one table set: open, read, channels' call, write.
-ghost use Rattle.channels.specs.Feed as Feed;
+ghost use Rattle.channel_lines.specs.Feed as Feed;
 ghost use Rattle.heard.specs.Start as Start;
-use channels::Recorder;
+use channel_lines::Recorder;
 use libc::STDERR_FILENO;
 
 // Where the recording stands after a read, how long the text was that was written, and whether there may be more.

@@ -1,2 +1,1 @@
 mod Ends
-mod Texts

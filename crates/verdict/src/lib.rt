@@ -1,11 +1,9 @@
-// A line of another decoder's beside ours: what differs first between the two, and how that is said.
+// A line of another decoder's beside ours: what is held of it, the forms of a line, and what differs first between the two.
 ghost use mathlib.Core.Path.{_≡_};
 ghost use mathlib.Core.Bool.{true, _&&_};
-ghost use Prim.Native.Nat.{_+_, _-_, _*_, _≤_, _<_, min};
+ghost use Prim.Native.Nat.{_≤_, _<_, min};
 ghost use lib.ListN.{length};
-ghost use lib.Seq.{sets};
 ghost use Rattle.sequence.specs.All.{all};
-ghost use Rattle.stream.specs.Room.{over};
 ghost use Rattle.stream.specs.Lines.{pieces};
 ghost use Rattle.stream.specs.Machine.{fedAll};
 ghost use Rattle.hex.specs.Text as Text;
@@ -152,7 +150,7 @@ fn is_frame(text: &[u8]) -> bool
     digits(&text[2..])
 }
 
-fn known(text: &[u8]) -> bool
+pub fn known(text: &[u8]) -> bool
     ensures { λ r. ⌜ r ≡ Verdict.known (now (text .entry)) ⌝ }
 {
     if is_frame(text) {
@@ -161,7 +159,7 @@ fn known(text: &[u8]) -> bool
     is_refusal(text)
 }
 
-fn both_frames(a: &[u8], b: &[u8]) -> bool
+pub fn both_frames(a: &[u8], b: &[u8]) -> bool
     ensures frames { λ r. ⌜ r ≡ Verdict.isFrame (now (a .entry)) && Verdict.isFrame (now (b .entry)) ⌝ }
     ensures long { λ r. ⌜ (r ≡ true → (length (now (a .entry)) ≡ 1282) × (length (now (b .entry)) ≡ 1282)) ⌝ }
 {
@@ -181,7 +179,7 @@ fn same_digits(ours: &[u8], theirs: &[u8], p: usize) -> bool
 }
 
 // The lowest place whose digits differ; the last where none before it does.
-fn place(ours: &[u8], theirs: &[u8]) -> usize
+pub fn place(ours: &[u8], theirs: &[u8]) -> usize
     requires { ⌜ length (now ours) ≡ 1282 ⌝ ∗ ⌜ length (now theirs) ≡ 1282 ⌝ }
     ensures place { λ r. ⌜ r ≡ Verdict.place (now (ours .entry)) (now (theirs .entry)) ⌝ }
     ensures within { λ r. ⌜ r < 320 ⌝ }
@@ -198,7 +196,7 @@ fn place(ours: &[u8], theirs: &[u8]) -> usize
 }
 
 // The number that the digits of a place spell.
-fn spelled(text: &[u8], p: usize) -> u32
+pub fn spelled(text: &[u8], p: usize) -> u32
     requires { ⌜ length (now text) ≡ 1282 ⌝ ∗ ⌜ p < 320 ⌝ }
     ensures { λ r. ⌜ r ≡ Verdict.spelled (now (text .entry)) p ⌝ }
 {
@@ -210,138 +208,14 @@ fn spelled(text: &[u8], p: usize) -> u32
     4096 * a + 256 * b + 16 * c + d
 }
 
-fn below_65536(v: u32) -> u32
-    ensures { λ r. ⌜ r ≡ 65536 - v ⌝ }
-{
-    if v < 65536 { 65536 - v } else { 0 }
-}
-
-// A blank and a number of 16 bits as a signed one.
-fn put_signed(v: u32, n: usize, room: &mut [u8]) -> usize
-    requires { ⌜ n + 22 ≤ length (now room) ⌝ }
-    ensures next { λ r. ⌜ r ≡ n + length (Verdict.spaced v) ⌝ }
-    ensures text { λ _. ⌜ now (room .exit) ≡ sets (now (room .entry)) n (Verdict.spaced v) ⌝ }
-{
-    if v < 32768 {
-        let a = stream::put_at(b" ", n, room);
-        return stream::put_decimal(v as u64, a, room);
-    }
-    let a = stream::put_at(b" -", n, room);
-    stream::put_decimal(below_65536(v) as u64, a, room)
-}
-
-// `line N`, at the start of room.
-fn put_head(number: u64, room: &mut [u8]) -> usize
-    requires { ⌜ 128 ≤ length (now room) ⌝ }
-    ensures next { λ r. ⌜ r ≡ length (Verdict.head number) ⌝ }
-    ensures text { λ _. ⌜ now (room .exit) ≡ sets (now (room .entry)) 0 (Verdict.head number) ⌝ }
-{
-    let a = stream::put_at(b"line ", 0, room);
-    stream::put_decimal(number, a, room)
-}
-
-fn put_says(number: u64, words: &[u8], room: &mut [u8]) -> usize
-    requires { ⌜ length (now words) ≤ 32 ⌝ ∗ ⌜ 128 ≤ length (now room) ⌝ }
-    ensures length { λ r. ⌜ r ≡ length (Verdict.says number (now (words .entry))) ⌝ }
-    ensures text { λ _. ⌜ now (room .exit) ≡ over (Verdict.says number (now (words .entry))) (now (room .entry)) ⌝ }
-{
-    let a = put_head(number, room);
-    let b = stream::put_at(words, a, room);
-    stream::put_at(b"\n", b, room)
-}
-
-// ` sample P`
-fn put_place(p: usize, n: usize, room: &mut [u8]) -> usize
-    requires { ⌜ n + 28 ≤ length (now room) ⌝ }
-    ensures next { λ r. ⌜ r ≡ n + length (Verdict.sampleOf p) ⌝ }
-    ensures text { λ _. ⌜ now (room .exit) ≡ sets (now (room .entry)) n (Verdict.sampleOf p) ⌝ }
-{
-    let a = stream::put_at(b" sample ", n, room);
-    stream::put_decimal(p as u64, a, room)
-}
-
-fn put_sample(number: u64, p: usize, ours: u32, theirs: u32, room: &mut [u8]) -> usize
-    requires { ⌜ 128 ≤ length (now room) ⌝ }
-    ensures length { λ r. ⌜ r ≡ length (Verdict.says number (Verdict.sample p ours theirs)) ⌝ }
-    ensures text { λ _. ⌜ now (room .exit) ≡ over (Verdict.says number (Verdict.sample p ours theirs)) (now (room .entry)) ⌝ }
-{
-    let a = put_head(number, room);
-    let b = put_place(p, a, room);
-    let c = put_signed(ours, b, room);
-    let d = put_signed(theirs, c, room);
-    stream::put_at(b"\n", d, room)
-}
-
-// What differs first between a line of ours and another one of theirs.
-fn put_difference(number: u64, ours: &[u8], theirs: &[u8], room: &mut [u8]) -> usize
-    requires { ⌜ 128 ≤ length (now room) ⌝ }
-    ensures length { λ r. ⌜ r ≡ length (Verdict.difference number (now (ours .entry)) (now (theirs .entry))) ⌝ }
-    ensures text { λ _. ⌜ now (room .exit) ≡ over (Verdict.difference number (now (ours .entry)) (now (theirs .entry))) (now (room .entry)) ⌝ }
-{
-    if !known(theirs) {
-        return put_says(number, b" refused 16", room);
-    }
-    if !both_frames(ours, theirs) {
-        return put_says(number, b" refusal", room);
-    }
-    if ours[0] != theirs[0] {
-        return put_says(number, b" mark", room);
-    }
-    let p = place(ours, theirs);
-    let a = spelled(ours, p);
-    let b = spelled(theirs, p);
-    put_sample(number, p, a, b, room)
-}
-
-// A line that we do not have.
-fn put_added(number: u64, theirs: &[u8], room: &mut [u8]) -> usize
-    requires { ⌜ 128 ≤ length (now room) ⌝ }
-    ensures length { λ r. ⌜ r ≡ length (Verdict.added number (now (theirs .entry))) ⌝ }
-    ensures text { λ _. ⌜ now (room .exit) ≡ over (Verdict.added number (now (theirs .entry))) (now (room .entry)) ⌝ }
-{
-    if known(theirs) {
-        return put_says(number, b" extra", room);
-    }
-    put_says(number, b" refused 16", room)
-}
-
 // Whether a line of ours is theirs, of which all is held or only the beginning.
-fn agrees(ours: &[u8], theirs: &[u8], whole: bool) -> bool
+pub fn agrees(ours: &[u8], theirs: &[u8], whole: bool) -> bool
     ensures { λ r. ⌜ r ≡ whole && Verdict.same (now (ours .entry)) (now (theirs .entry)) ⌝ }
 {
     if whole {
         return same(ours, theirs);
     }
     false
-}
-
-// A line of theirs beside the text of ours, which is empty where we have none: nothing where they agree.
-pub fn put_round(number: u64, text: &[u8], theirs: &[u8], whole: bool, room: &mut [u8]) -> usize
-    requires { ⌜ 128 ≤ length (now room) ⌝ }
-    ensures length { λ r. ⌜ r ≡ length (Round.round number (now (text .entry)) (now (theirs .entry)) whole) ⌝ }
-    ensures text { λ _. ⌜ now (room .exit) ≡ over (Round.round number (now (text .entry)) (now (theirs .entry)) whole) (now (room .entry)) ⌝ }
-{
-    if text.len() == 0 {
-        return put_added(number, theirs, room);
-    }
-    let k = text.len() - 1;
-    if agrees(&text[..k], theirs, whole) {
-        return 0;
-    }
-    put_difference(number, &text[..k], theirs, room)
-}
-
-// What is told where they have no line more.
-pub fn put_last(number: u64, said: usize, room: &mut [u8]) -> usize
-    requires { ⌜ 128 ≤ length (now room) ⌝ }
-    ensures length { λ r. ⌜ r ≡ length (Round.last number said) ⌝ }
-    ensures text { λ _. ⌜ now (room .exit) ≡ over (Round.last number said) (now (room .entry)) ⌝ }
-{
-    if said == 0 {
-        stream::put(b"agree\n", room);
-        return 6;
-    }
-    put_says(number, b" missing", room)
 }
 
 // The next line's number. It stays at the last one that a u64 holds.

@@ -1,6 +1,6 @@
 -- As it is.
 use mathlib.Core.Path.{refl}
-use Rattle.beside.specs.Talk.{begin}
+use Rattle.judging.specs.Talk.{begin}
 use Rattle.beside.proofs.begin.Statement.{statement}
 use Rattle.beside.proofs.begin.Tie as tie
 

@@ -3,7 +3,7 @@ use native.Mathlib.Omega.{arith}
 use mathlib.Core.Path.{sym, _∙_}
 use lib.ListN.{length-take}
 use lib.Seq.{length-take-le}
-use Rattle.beside.specs.Talk.{oursText}
+use Rattle.judging.specs.Talk.{oursText}
 use Rattle.beside.proofs.Calls.{ours-none, ours-some}
 use borrow.Author.Needs.{needs}
 use Rattle.beside.proofs.ours.Statement.{statement}

@@ -2,7 +2,7 @@
 use borrow.Author.Needs.{needs}
 use Rattle.stream.specs.Reads.{answer-end, answer-chunk}
 use Rattle.heard.specs.Start.{part-bytes}
-use Rattle.channels.specs.Feed.{fedBy, writtenBy, endingBy, answered, fedChunk}
+use Rattle.channel_lines.specs.Feed.{fedBy, writtenBy, endingBy, answered, fedChunk}
 use Rattle.channels.proofs.answer.Statement.{statement}
 use Rattle.channels.proofs.answer.Tie as tie
 

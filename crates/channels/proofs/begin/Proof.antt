@@ -1,5 +1,5 @@
 -- heard's start, with its state for each channel.
-use Rattle.channels.specs.Feed.{from, started}
+use Rattle.channel_lines.specs.Feed.{from, started}
 use borrow.Author.Needs.{needs}
 use Rattle.channels.proofs.begin.Statement.{statement}
 use Rattle.channels.proofs.begin.Tie as tie

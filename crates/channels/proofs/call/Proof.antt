@@ -8,9 +8,9 @@ use Rattle.hex.specs.Held.{heldLine}
 use Rattle.heard.specs.declared.Said.{Said}
 use Rattle.heard.specs.Recording.{lineStep, lineText}
 use Rattle.heard.specs.Start as Start
-use Rattle.channels.specs.Channels.{lettered}
-use Rattle.channels.specs.Feed.{worth, called}
-use Rattle.channels.proofs.Lines.{stored-long, lettered-put}
+use Rattle.channel_lines.specs.Channels.{lettered}
+use Rattle.channel_lines.specs.Feed.{worth, called}
+use Rattle.channel_lines.specs.Put.{stored-long, lettered-put}
 use borrow.Author.Needs.{needs}
 use Rattle.channels.proofs.call.Statement.{statement}
 use Rattle.channels.proofs.call.Tie as tie

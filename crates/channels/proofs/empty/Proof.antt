@@ -1,5 +1,5 @@
 -- Nothing is held.
-use Rattle.channels.specs.Feed.{kept}
+use Rattle.channel_lines.specs.Feed.{kept}
 use borrow.Author.Needs.{needs}
 use Rattle.channels.proofs.empty.Statement.{statement}
 use Rattle.channels.proofs.empty.Tie as tie

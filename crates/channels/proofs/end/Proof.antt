@@ -3,8 +3,8 @@ use mathlib.Core.Path.{refl, ap}
 use native.Mathlib.Omega.{arith}
 use borrow.Author.Tests.{eq-eqb, ne-eqb}
 use Rattle.stream.specs.Room.{over-none, counts}
-use Rattle.channels.specs.declared.Ended.{Ended}
-use Rattle.channels.specs.Feed.{ended, ending}
+use Rattle.channel_lines.specs.declared.Ended.{Ended}
+use Rattle.channel_lines.specs.Feed.{ended, ending}
 use borrow.Author.Needs.{needs}
 use Rattle.channels.proofs.end.Statement.{statement}
 use Rattle.channels.proofs.end.Tie as tie

@@ -24,14 +24,8 @@ call-requires-2 c κs = search needs
 enum-told-3 : tie.Need-enum-told-3
 enum-told-3 c = search needs
 
-missed-requires : tie.Need-missed-requires
-missed-requires c κs = search needs
-
-missed-requires-2 : tie.Need-missed-requires-2
-missed-requires-2 c κs = search needs
-
-put-neither-requires : tie.Need-put-neither-requires
-put-neither-requires c κs = search needs
+end-neither-requires : tie.Need-end-neither-requires
+end-neither-requires c κs = search needs
 
 same-length : tie.Need-same-length
 same-length c = search needs
@@ -69,14 +63,12 @@ same-length-3 c = search needs
 returns-3 : tie.Need-returns-3
 returns-3 c =
     let k = c .before .before in
-    let g = k .before .before in
-    let f = g .before in
-    let t = f .before in
+    let t = k .before .before in
     let w = t .before .before in
     let s = w .before .before .before .before .before .before .args in
-    let m = ends-neither (s .words .now) (s .bytes .now) (s .channels) (s .line) (sym (w .whose-line .ensures) ∙ t .enum-told3 .given .1) in
-    let e = k .put-neither .ensures in
-    (rw (m .0, e .0, ← f .missed .ensures, ← g .missed2 .ensures), (rw (m .1) (e .1), (omega (arith, e .0), omega (arith, e .0))))
+    let e = k .end-neither .ensures in
+    let m = ends-neither (s .words .now) (s .bytes .now) (s .channels) (s .line) (sym (w .whose-line .ensures) ∙ t .enum-told3 .given .1) (e .0) (e .1 .0) (e .1 .1 .0) in
+    (m .0, (rw (m .1) (e .1 .1 .1), (omega (arith, e .0), omega (arith, e .0))))
 
 pub end-line-spec : {M : Type 1} → statement M
 end-line-spec =
@@ -88,9 +80,7 @@ end-line-spec =
     enum-told-2
     call-requires-2
     enum-told-3
-    missed-requires
-    missed-requires-2
-    put-neither-requires
+    end-neither-requires
     same-length
     returns
     same-length-2

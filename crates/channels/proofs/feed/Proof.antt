@@ -5,7 +5,7 @@ use lib.ListN.{length, length-take, length-drop}
 use native.Mathlib.Omega.{arith}
 use Rattle.stream.specs.Machine.{Streamed, streamed-none, streamed-more, streamed-quiet, streamed-end}
 use Rattle.stream.specs.Room.{tail-back, counts}
-use Rattle.channels.specs.Feed.{standing, credit, ended, fed, written, fedChunk, turn-fits, fed-newline, fed-other, newline-paid, other-paid}
+use Rattle.channel_lines.specs.Feed.{standing, credit, ended, fed, written, fedChunk, turn-fits, fed-newline, fed-other, newline-paid, other-paid}
 use Rattle.channels.proofs.feed.Statement.{statement}
 use Rattle.channels.proofs.feed.Tie as tie
 

@@ -1,6 +1,6 @@
 -- The first two bytes go to their places, the others to the rest.
 use mathlib.Core.Path.{sym}
-use Rattle.channels.specs.Feed.{push, pushBy}
+use Rattle.channel_lines.specs.Feed.{push, pushBy}
 use Rattle.channels.proofs.Lines.{push-more}
 use borrow.Author.Needs.{needs}
 use Rattle.channels.proofs.push.Statement.{statement}

@@ -3,7 +3,7 @@ use Prim.Native.Nat.{_≤_}
 use mathlib.Core.Path.{_≡_}
 use native.Mathlib.Omega.{arith}
 use lib.ListN.{length}
-use Rattle.beside.specs.Talk.{begin}
+use Rattle.judging.specs.Talk.{begin}
 use borrow.Author.Needs.{needs}
 use Rattle.compare.proofs.play.Statement.{statement}
 use Rattle.compare.proofs.play.Tie as tie

@@ -4,8 +4,8 @@ use mathlib.Core.Path.{refl, sym, ap, _∙_}
 use mathlib.Core.List.{[]}
 use lib.Dec.{ltb}
 use Rattle.stream.specs.Machine.{fedAll}
-use Rattle.convert.specs.declared.Fed.{Fed}
-use Rattle.convert.specs.Feed.{answered}
+use Rattle.converter.specs.declared.Fed.{Fed}
+use Rattle.converter.specs.Feed.{answered}
 use borrow.Author.Needs.{needs}
 use Rattle.convert_console.proofs.take_in.Statement.{statement}
 use Rattle.convert_console.proofs.take_in.Tie as tie

@@ -1,13 +1,12 @@
 -- The lengths decide first; then the answer is that of the call on states.
 use Prim.Native.Nat.{ℕ, _*_}
 use mathlib.Core.Path.{_≡_, refl, sym, ap, _∙_}
-use native.Mathlib.Omega.{arith}
 use lib.IntN.{pos}
-use lib.ListN.{replicate, length-set}
+use lib.ListN.{replicate}
 use Rattle.calls.specs.Celp as Celp
 use Rattle.image.specs.Image.{state}
 use Rattle.desk_calls.specs.Desk.{words, bytes, sampleBytes}
-use Rattle.desk.proofs.Outcomes.{words-are, answer-is, samples-are, filled, decode-eleven, decode-one, decode-two, decode-refused, decode-taken}
+use Rattle.desk.proofs.Outcomes.{words-are, answer-is, samples-are, filled, lowered-told, decode-eleven, decode-one, decode-two, decode-refused, decode-taken}
 use borrow.Author.Needs.{needs}
 use Rattle.desk.proofs.drolkhise_decode.Statement.{statement}
 use Rattle.desk.proofs.drolkhise_decode.Tie as tie
@@ -17,36 +16,32 @@ returns c =
     let a = c .before .before .before .before .before .args in
     decode-eleven (a .tables .now) (a .image .now) (a .payload .now) (a .samples .now) (c .if1 .taken)
 
-slice-write-image : tie.Need-slice-write-image
-slice-write-image c = search needs
-
-slice-write-image-2 : tie.Need-slice-write-image-2
-slice-write-image-2 c = simp length-set (omega arith)
+lower-requires : tie.Need-lower-requires
+lower-requires c κs = c .before .before .if1 .left
 
 same-length : tie.Need-same-length
 same-length c = search needs
 
 returns-2 : tie.Need-returns-2
 returns-2 c =
-    let e = c .before in
+    let t = c .before .before .before .before in
+    let e = t .before in
     let a = e .before .before .before .before .before .args in
-    decode-one (a .tables .now) (a .image .now) (a .payload .now) (a .samples .now) (e .if1 .left) (c .if2 .taken)
+    lowered-told (a .tables .now) (a .image .now) (a .payload .now) (a .samples .now) _ _ _ (c .before .before .lower .ensures) (decode-one (a .tables .now) (a .image .now) (a .payload .now) (a .samples .now) (e .if1 .left) (t .if2 .taken))
 
-slice-write-image-3 : tie.Need-slice-write-image-3
-slice-write-image-3 c = search needs
-
-slice-write-image-4 : tie.Need-slice-write-image-4
-slice-write-image-4 c = simp length-set (omega arith)
+lower-requires-2 : tie.Need-lower-requires-2
+lower-requires-2 c κs = c .before .before .before .if1 .left
 
 same-length-2 : tie.Need-same-length-2
 same-length-2 c = search needs
 
 returns-3 : tie.Need-returns-3
 returns-3 c =
-    let f = c .before in
+    let t = c .before .before .before .before in
+    let f = t .before in
     let e = f .before in
     let a = e .before .before .before .before .before .args in
-    decode-two (a .tables .now) (a .image .now) (a .payload .now) (a .samples .now) (e .if1 .left) (f .if2 .left) (c .if3 .taken)
+    lowered-told (a .tables .now) (a .image .now) (a .payload .now) (a .samples .now) _ _ _ (c .before .before .lower2 .ensures) (decode-two (a .tables .now) (a .image .now) (a .payload .now) (a .samples .now) (e .if1 .left) (f .if2 .left) (t .if3 .taken))
 
 slice-aggregate-read-words : tie.Need-slice-aggregate-read-words
 slice-aggregate-read-words c = search needs
@@ -75,11 +70,8 @@ slice-aggregate-decode-2 c = search needs
 decode-requires : tie.Need-decode-requires
 decode-requires c κs = search needs
 
-slice-write-image-5 : tie.Need-slice-write-image-5
-slice-write-image-5 c = search (needs, c .before .before .before .before .before .before .before .before .before .before .before .before .before .before .if1 .left)
-
-slice-write-image-6 : tie.Need-slice-write-image-6
-slice-write-image-6 c = let e = c .before .before .before .before .before .before .before .before .before .before .before .before .before .before .if1 .left in simp length-set (omega arith)
+lower-requires-3 : tie.Need-lower-requires-3
+lower-requires-3 c κs = c .before .before .before .before .before .before .before .before .before .before .before .before .before .before .before .if1 .left
 
 same-length-3 : tie.Need-same-length-3
 same-length-3 c = search needs
@@ -99,10 +91,12 @@ sampled d = samples-are (start d .args .tables .now) (start d .args .image .now)
 
 returns-4 : tie.Need-returns-4
 returns-4 c =
-    let d = c .before .before .before in
+    let t = c .before .before .before .before in
+    let d = t .before .before .before in
     let a = start d .args in
     let e = d .before .before .before .before .before .before .before .before .before .before .before in
-    decode-refused (a .tables .now) (a .image .now) (a .payload .now) (a .samples .now) (e .if1 .left) (d .before .before .before .before .before .before .before .before .before .before .if2 .left) (d .before .before .before .before .before .before .before .before .before .if3 .left) (d .decode .result) (answered d) (c .if4 .taken)
+    lowered-told (a .tables .now) (a .image .now) (a .payload .now) (a .samples .now) _ _ _ (c .before .before .lower3 .ensures)
+    (decode-refused (a .tables .now) (a .image .now) (a .payload .now) (a .samples .now) (e .if1 .left) (d .before .before .before .before .before .before .before .before .before .before .if2 .left) (d .before .before .before .before .before .before .before .before .before .if3 .left) (d .decode .result) (answered d) (t .if4 .taken))
 
 write-requires : tie.Need-write-requires
 write-requires c κs = c .before .before .before .before .before .before .before .before .before .before .before .before .before .before .before .before .if1 .left
@@ -133,12 +127,10 @@ drolkhise-decode-spec =
     tie.close
     (tie.spec
     returns
-    slice-write-image
-    slice-write-image-2
+    lower-requires
     same-length
     returns-2
-    slice-write-image-3
-    slice-write-image-4
+    lower-requires-2
     same-length-2
     returns-3
     slice-aggregate-read-words
@@ -150,8 +142,7 @@ drolkhise-decode-spec =
     part-decode-end
     slice-aggregate-decode-2
     decode-requires
-    slice-write-image-5
-    slice-write-image-6
+    lower-requires-3
     same-length-3
     returns-4
     write-requires

@@ -2,9 +2,9 @@
 use Prim.Native.Nat.{_≤_}
 use mathlib.Core.Path.{sym, _∙_}
 use native.Mathlib.Omega.{arith}
-use lib.ListN.{length, length-set}
+use lib.ListN.{length}
 use Rattle.desk_calls.specs.FramesSame.{samples-in-top}
-use Rattle.desk.proofs.Outcomes.{front-long, frames-eleven, frames-one}
+use Rattle.desk.proofs.Outcomes.{front-long, lowered-all, frames-eleven, frames-one}
 use borrow.Author.Needs.{needs}
 use Rattle.desk.proofs.drolkhise_decode_frames.Statement.{statement}
 use Rattle.desk.proofs.drolkhise_decode_frames.Tie as tie
@@ -20,19 +20,17 @@ returns c =
     let s = c .before .before .before .before .before .before in
     frames-eleven (s .args .tables .now) (s .args .image .now) (s .args .payloads .now) (s .args .samples .now) (s .args .numbers .now) (c .if1 .taken)
 
-slice-write-image : tie.Need-slice-write-image
-slice-write-image c = search needs
-
-slice-write-image-2 : tie.Need-slice-write-image-2
-slice-write-image-2 c = simp length-set (omega arith)
+lower-requires : tie.Need-lower-requires
+lower-requires c κs = c .before .before .if1 .left
 
 same-length : tie.Need-same-length
 same-length c = search needs
 
 returns-2 : tie.Need-returns-2
 returns-2 c =
-    let s = c .before .before .before .before .before .before .before in
-    frames-one (s .args .tables .now) (s .args .image .now) (s .args .payloads .now) (s .args .samples .now) (s .args .numbers .now) (c .before .if1 .left) (c .if2 .taken)
+    let t = c .before .before .before .before in
+    let a = t .before .before .before .before .before .before .before .args in
+    lowered-all (a .tables .now) (a .image .now) (a .payloads .now) (a .samples .now) (a .numbers .now) _ _ _ _ (c .before .before .lower .ensures) (frames-one (a .tables .now) (a .image .now) (a .payloads .now) (a .samples .now) (a .numbers .now) (t .before .if1 .left) (t .if2 .taken))
 
 samples-in-requires : tie.Need-samples-in-requires
 samples-in-requires c κs = search needs
@@ -63,8 +61,7 @@ drolkhise-decode-frames-spec =
     tie.close
     (tie.spec
     returns
-    slice-write-image
-    slice-write-image-2
+    lower-requires
     same-length
     returns-2
     samples-in-requires

@@ -1,10 +1,10 @@
 -- The call on states was given what the definitions give it; its answer decides.
 use mathlib.Core.Path.{_≡_, refl}
 use native.Mathlib.Omega.{arith}
-use lib.ListN.{length, length-set}
+use lib.ListN.{length}
 use Rattle.desk_calls.specs.Desk.{words, standing}
 use Rattle.desk_calls.specs.FramesSame.{samples-in-most}
-use Rattle.desk.proofs.Outcomes.{words-are, standing-are, frames-declined, frames-accepted}
+use Rattle.desk.proofs.Outcomes.{words-are, standing-are, lowered-all, frames-declined, frames-accepted}
 use borrow.Author.Needs.{needs}
 use Rattle.desk.proofs.frames.Statement.{statement}
 use Rattle.desk.proofs.frames.Tie as tie
@@ -50,11 +50,8 @@ part-decode-frames-end c = search needs
 decode-frames-requires : tie.Need-decode-frames-requires
 decode-frames-requires c κs = search needs
 
-slice-write-image : tie.Need-slice-write-image
-slice-write-image c = let e = start (c .before .before .before .before .before) .pre .0 in omega arith
-
-slice-write-image-2 : tie.Need-slice-write-image-2
-slice-write-image-2 c = let e = start (c .before .before .before .before .before) .pre .0 in simp length-set (omega arith)
+lower-requires : tie.Need-lower-requires
+lower-requires c κs = start (c .before .before .before .before .before .before) .pre .0
 
 same-length : tie.Need-same-length
 same-length c = search needs
@@ -70,9 +67,11 @@ same-length-4 c = search needs
 
 returns : tie.Need-returns
 returns c =
-    let d = c .before .before .before .before .before in
+    let t = c .before .before .before .before in
+    let d = t .before .before .before .before .before in
     let s = start d in
-    frames-declined (s .args .tables .now) (s .args .image .now) (s .args .payloads .now) (s .args .samples .now) (s .args .numbers .now) (s .pre .0) (s .pre .1 .0) _ _ _ _ (worded d) refl (d .before .before .before .before .before .before .before .before .before .read .ensures) (stood d) (d .decode-frames .result) (d .decode-frames .ensures .0) (d .decode-frames .last .1 .1 .1 .1 .1 .0) (d .decode-frames .ensures .1 .1) (c .if1 .taken)
+    lowered-all (s .args .tables .now) (s .args .image .now) (s .args .payloads .now) (s .args .samples .now) (s .args .numbers .now) _ _ _ _ (c .before .before .lower .ensures)
+    (frames-declined (s .args .tables .now) (s .args .image .now) (s .args .payloads .now) (s .args .samples .now) (s .args .numbers .now) (s .pre .0) (s .pre .1 .0) _ _ _ _ (worded d) refl (d .before .before .before .before .before .before .before .before .before .read .ensures) (stood d) (d .decode-frames .result) (d .decode-frames .ensures .0) (d .decode-frames .last .1 .1 .1 .1 .1 .0) (d .decode-frames .ensures .1 .1) (t .if1 .taken))
 
 write-requires : tie.Need-write-requires
 write-requires c κs = start (c .before .before .before .before .before .before .before) .pre .0
@@ -118,8 +117,7 @@ frames-spec =
     part-decode-frames-start
     part-decode-frames-end
     decode-frames-requires
-    slice-write-image
-    slice-write-image-2
+    lower-requires
     same-length
     same-length-2
     same-length-3

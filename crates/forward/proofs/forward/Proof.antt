@@ -2,7 +2,7 @@
 use borrow.Author.Needs.{needs}
 use Prim.Native.Nat.{_-_}
 use native.Mathlib.Omega.{arith}
-use Rattle.forward.specs.Places.{Gone, gone-none, gone-more, gone-all, gone-end}
+use Rattle.forward.specs.Gone.{Gone, gone-none, gone-more, gone-all, gone-end}
 use Rattle.forward.proofs.forward.Statement.{statement}
 use Rattle.forward.proofs.forward.Tie as tie
 

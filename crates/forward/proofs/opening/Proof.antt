@@ -3,7 +3,7 @@ use borrow.Author.Needs.{needs}
 use mathlib.Core.Path.{sym, ap, _∙_}
 use borrow.Author.Tests.{eq-eqb, ne-eqb}
 use Rattle.state.specs.declared.Returned.{Returned}
-use Rattle.forward.specs.Places.{opens}
+use Rattle.forward.specs.Gone.{opens}
 use Rattle.forward.proofs.opening.Statement.{statement}
 use Rattle.forward.proofs.opening.Tie as tie
 

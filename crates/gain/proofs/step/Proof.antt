@@ -8,7 +8,7 @@ use mir.Syntax.{w16}
 use mir.ValLaws.{toZ-ofZ}
 use Rattle.gain.specs.declared.Decoded.{Decoded}
 use Rattle.gain.specs.declared.CodeGainArgument.{CodeGainArgument}
-use Rattle.gain.specs.Elementary.{add}
+use Rattle.elementary.specs.Elementary.{add}
 use Rattle.gain.specs.Gain.{step, argument, codeGain}
 use Rattle.gain.specs.Ranges.{argument-carried}
 use Rattle.gain.proofs.step.Statement.{statement}

@@ -6,7 +6,7 @@ use Rattle.state.specs.declared.State.{State}
 use mathlib.Core.Path.{sym, ap, _∙_}
 use Prim.Native.Nat.{_<_, _≤_}
 use Rattle.slot_users.specs.Users.{SLOTS}
-use Rattle.seek.specs.Best.{best}
+use Rattle.best_save.specs.Best.{best}
 use native.Mathlib.Omega.{arith}
 use borrow.Author.Needs.{needs}
 use Rattle.playback.proofs.found.Statement.{statement}

@@ -1,7 +1,7 @@
 -- A refusal's line, or the other.
-use Rattle.replies.proofs.Steps.{answered-yes, answered-no, put-line}
+use Rattle.replies.proofs.Steps.{put-line}
 use Rattle.replies.specs.Promised.{put-as}
-use Rattle.replies.specs.Replies.{refusedWord}
+use Rattle.replies.specs.Replies.{refusedWord, answered-yes, answered-no}
 use native.Mathlib.Omega.{arith}
 use borrow.Author.Needs.{needs}
 use Rattle.replies.proofs.put_answer.Statement.{statement}

@@ -1,5 +1,5 @@
 -- What was not found is told, and what was found by its mark.
-use Rattle.replies.proofs.Steps.{answered-yes, answered-no}
+use Rattle.replies.specs.Replies.{answered-yes, answered-no}
 use Rattle.replies.specs.Promised.{put-as}
 use mathlib.Core.Path.{refl, sym, _∙_}
 use borrow.Author.Needs.{needs}

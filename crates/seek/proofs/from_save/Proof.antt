@@ -7,7 +7,7 @@ use lib.ListN.{length}
 use Rattle.slot_users.specs.Users.{SLOTS, slotAt}
 use Rattle.shelf.specs.Shelf.{fetch}
 use Rattle.forward.specs.Forward.{forward}
-use Rattle.seek.specs.Best.{best}
+use Rattle.best_save.specs.Best.{best}
 use Rattle.seek.proofs.Steps.{broken, goes}
 use Rattle.seek.proofs.from_save.Statement.{statement}
 use Rattle.seek.proofs.from_save.Tie as tie

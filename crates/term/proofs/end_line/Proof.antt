@@ -16,33 +16,27 @@ returns c = rw (sym (c .before .full .ensures) ∙ c .if1 .taken)
 is-only-requires : tie.Need-is-only-requires
 is-only-requires c κs = search needs
 
-cold-start-requires : tie.Need-cold-start-requires
-cold-start-requires c κs = search needs
-
-uncounted-requires : tie.Need-uncounted-requires
-uncounted-requires c κs = search needs
+ended-requires : tie.Need-ended-requires
+ended-requires c κs = search needs
 
 returns-2 : tie.Need-returns-2
 unfolding lineEnded isEnd
 returns-2 c =
-    let e = c .before .before .before .before in
-    rw (sym (e .before .before .full .ensures) ∙ e .before .if1 .left, sym (e .is-only .ensures) ∙ c .before .before .before .if2 .taken, c .before .before .cold-start .ensures, c .uncounted .ensures)
+    let e = c .before .before in
+    rw (sym (e .before .before .full .ensures) ∙ e .before .if1 .left, sym (e .is-only .ensures) ∙ c .before .if2 .taken) (c .ended .ensures)
 
 is-opening-requires : tie.Need-is-opening-requires
 is-opening-requires c κs = search needs
 
-reset-requires : tie.Need-reset-requires
-reset-requires c κs = search needs
-
-uncounted-requires-2 : tie.Need-uncounted-requires-2
-uncounted-requires-2 c κs = search needs
+opened-requires : tie.Need-opened-requires
+opened-requires c κs = search needs
 
 returns-3 : tie.Need-returns-3
 unfolding lineEnded isEnd
 returns-3 c =
-    let o = c .before .before .before .before in
+    let o = c .before .before in
     let e = o .before .before in
-    rw (sym (e .before .before .full .ensures) ∙ e .before .if1 .left, sym (e .is-only .ensures) ∙ o .before .if2 .left, sym (o .is-opening .ensures) ∙ c .before .before .before .if3 .taken, c .before .before .reset .ensures, c .uncounted2 .ensures)
+    rw (sym (e .before .before .full .ensures) ∙ e .before .if1 .left, sym (e .is-only .ensures) ∙ o .before .if2 .left, sym (o .is-opening .ensures) ∙ c .before .if3 .taken) (c .opened .ensures)
 
 call-requires : tie.Need-call-requires
 call-requires c κs = search needs
@@ -61,12 +55,10 @@ end-line-spec =
     full-requires
     returns
     is-only-requires
-    cold-start-requires
-    uncounted-requires
+    ended-requires
     returns-2
     is-opening-requires
-    reset-requires
-    uncounted-requires-2
+    opened-requires
     returns-3
     call-requires
     returns-4)

@@ -4,8 +4,8 @@ use mathlib.Core.Path.{refl, sym, ap, _∙_}
 use mathlib.Core.List.{[]}
 use lib.Dec.{ltb}
 use Rattle.stream.specs.Machine.{fedAll}
-use Rattle.channels.specs.declared.Fed.{Fed}
-use Rattle.channels.specs.Feed.{answered}
+use Rattle.channel_lines.specs.declared.Fed.{Fed}
+use Rattle.channel_lines.specs.Feed.{answered}
 use borrow.Author.Needs.{needs}
 use Rattle.two_channels.proofs.take_in.Statement.{statement}
 use Rattle.two_channels.proofs.take_in.Tie as tie

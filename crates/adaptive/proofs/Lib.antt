@@ -1,0 +1,3 @@
+mod Taps
+mod Filter
+mod Again

@@ -1,0 +1,4 @@
+pub mod Channels
+pub mod Put
+pub mod Feed
+pub mod Worked

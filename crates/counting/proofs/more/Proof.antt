@@ -1,0 +1,20 @@
+-- Below its top a count has room for one more.
+use borrow.Author.Needs.{needs}
+use native.Mathlib.Omega.{arith}
+use Rattle.tally.specs.Carried.{more}
+use Rattle.counting.proofs.more.Statement.{statement}
+use Rattle.counting.proofs.more.Tie as tie
+
+add-result : tie.Need-add-result
+add-result c = search needs
+
+returns : tie.Need-returns
+unfolding more
+returns c = omega arith
+
+returns-2 : tie.Need-returns-2
+unfolding more
+returns-2 c = omega arith
+
+pub more-spec : {M : Type 1} → statement M
+more-spec = tie.close (tie.spec add-result returns returns-2)

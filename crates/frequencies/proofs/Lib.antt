@@ -1,0 +1,2 @@
+mod Insertion
+mod Spacing

@@ -1,0 +1,3 @@
+mod Flipped
+mod Loops
+mod Nans

@@ -1,2 +1,0 @@
-mod Window
-mod Late
