@@ -1,4 +1,4 @@
--- The sum over a window is the two-sided filter's, and it is made in two runs.
+-- The sum over a window is the two-sided filter's, and it is made in two runs, or of the twenty alone.
 use native.Mathlib.Omega.{arith}
 use mathlib.Core.Path.{_≡_, refl, sym, ap, _∙_, subst}
 use mathlib.Core.List.{List}
@@ -13,12 +13,31 @@ use Rattle.fixed.specs.Fixed.{acc, fold, sat, clips, hi, mul}
 use Rattle.products.specs.PlainSums.{sum-backwards, sum-zeros, sum-wraps, sum-wrapped}
 use Rattle.products.specs.Runs as Runs
 use Rattle.pitch.specs.Pitch as Pitch
-use Rattle.adaptive.specs.Window.{Windowed, term, sample, predicted, predictedSum, clipped, sharpened}
+use Rattle.adaptive.specs.Window.{Ended, Windowed, term, sample, predicted, predictedSum, clipped, sharpened}
 
 -- ---- the window's sum is the filter's
 -- a window of taps and a phase that are known by equations
 pub windowed-of : {t u : List ℤ} {p q : ℕ} {w : List ℤ} → t ≡ u → p ≡ q → Windowed t p w → Windowed u q w
 windowed-of {t} {u} {p} {q} {w} e f d = subst (λ (x : List ℤ). Windowed x q w) e (subst (λ (x : ℕ). Windowed t x w) f d)
+
+-- the four taps that are 0 bring nothing in
+module _ (w signal : List ℤ) (from : ℕ) (z : Ended w) where
+  ended : (k : ℕ) → k < 4 → term w signal from (20 + k) ≡ pos 0
+  unfolding term mul
+  ended k h =
+      let x : ℤ = getD signal (from + (20 + k)) (pos 0) in
+      ap (λ (y : ℤ). x *ℤ y *ℤ pos 2) (z k h) ∙ ap (λ (y : ℤ). y *ℤ pos 2) (*ℤ-zero x)
+
+  twenty-plain : total _+ℤ_ (pos 0) (term w signal from) 24 ≡ total _+ℤ_ (pos 0) (term w signal from) 20
+  twenty-plain =
+      let t : ℕ → ℤ = term w signal from in
+      total-split _+ℤ_ (pos 0) t 20 4 ∙ sum-zeros (λ (k : ℕ). t (20 + k)) (total _+ℤ_ (pos 0) t 20) 4 ended
+
+  twenty : total fold (pos 0) (term w signal from) 20 ≡ sample w signal from
+  unfolding sample
+  twenty =
+      let t : ℕ → ℤ = term w signal from in
+      sum-wrapped t (pos 0) (pos 0) 19 refl ∙ ap acc (sym twenty-plain) ∙ sym (sum-wrapped t (pos 0) (pos 0) 23 refl)
 
 module _ (taps w signal : List ℤ) (phase from : ℕ) (d : Windowed taps phase w) where
   abbrev t : ℕ → ℤ
@@ -30,7 +49,7 @@ module _ (taps w signal : List ℤ) (phase from : ℕ) (d : Windowed taps phase 
   abbrev a : ℕ → ℤ
   a = Pitch.after taps (3 - phase) signal (from + 9)
 
-  -- the sides term by term, and the four that are 0
+  -- the sides term by term
   left : (k : ℕ) → k < 10 → t k ≡ b (10 - suc k)
   unfolding term Pitch.before
   left k h =
@@ -46,16 +65,9 @@ module _ (taps w signal : List ℤ) (phase from : ℕ) (d : Windowed taps phase 
       let p : from + (10 + k) ≡ from + 9 + 1 + k = omega arith in
       ap (λ (i : ℕ). mul (getD signal i (pos 0)) (getD w (10 + k) (pos 0))) p ∙ ap (mul (getD signal (from + 9 + 1 + k) (pos 0))) (d .right k h)
 
-  rest : (k : ℕ) → k < 4 → t (20 + k) ≡ pos 0
-  unfolding term mul
-  rest k h =
-      let x : ℤ = getD signal (from + (20 + k)) (pos 0) in
-      ap (λ (z : ℤ). x *ℤ z *ℤ pos 2) (d .rest k h) ∙ ap (λ (z : ℤ). z *ℤ pos 2) (*ℤ-zero x)
-
   plain : total _+ℤ_ (pos 0) t 24 ≡ total _+ℤ_ (total _+ℤ_ (pos 0) b 10) a 10
   plain =
-      total-split _+ℤ_ (pos 0) t 20 4
-      ∙ sum-zeros (λ (k : ℕ). t (20 + k)) (total _+ℤ_ (pos 0) t 20) 4 rest
+      twenty-plain w signal from (d .rest)
       ∙ total-split _+ℤ_ (pos 0) t 10 10
       ∙ total-same _+ℤ_ (total _+ℤ_ (pos 0) t 10) (λ (k : ℕ). t (10 + k)) a 10 right
       ∙ ap (λ (z : ℤ). total _+ℤ_ z a 10) (total-same _+ℤ_ (pos 0) t (λ (k : ℕ). b (10 - suc k)) 10 left ∙ sum-backwards b (pos 0) 10)
@@ -136,3 +148,20 @@ module _ (w signal : List ℤ) (from : ℕ) (p : length w ≡ 24) (q : from + 24
       (ap (λ (z : ℤ). total fold z (Runs.term (drop 16 w) second) 8) (total-same fold (pos 0) (Runs.term (take 16 w) first) (term w signal from) 16 in-first)
       ∙ total-same fold (total fold (pos 0) (term w signal from) 16) (Runs.term (drop 16 w) second) (λ (k : ℕ). term w signal from (16 + k)) 8 in-second
       ∙ sym (total-split fold (pos 0) (term w signal from) 16 8))
+
+-- ---- or of the twenty taps alone
+module _ (w signal : List ℤ) (from : ℕ) (p : length w ≡ 24) (q : from + 24 ≤ length signal) where
+  abbrev front : List ℤ
+  front = take (from + 20 - from) (drop from signal)
+
+  pub length-front : length front ≡ 20
+  length-front = simp (length-take, length-drop) (omega arith)
+
+  in-front : (k : ℕ) → k < 20 → Runs.term (take 20 w) front k ≡ term w signal from k
+  unfolding term
+  in-front k h =
+      let g : k < from + 20 - from = omega arith in
+      simp (getD-take, getD-drop)
+
+  pub by-twenty : Ended w → total fold (pos 0) (Runs.term (take 20 w) front) (length front) ≡ sample w signal from
+  by-twenty z = rw length-front (total-same fold (pos 0) (Runs.term (take 20 w) front) (term w signal from) 20 in-front ∙ twenty w signal from z)

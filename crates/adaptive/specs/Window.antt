@@ -23,6 +23,10 @@ pub record Filled (taps : List ℤ) (phase n : ℕ) (w : List ℤ) : Type 0 wher
 abbrev pub Windowed : List ℤ → ℕ → List ℤ → Type 0
 Windowed taps phase w = Filled taps phase 10 w
 
+-- that the last four of 24 are 0
+abbrev pub Ended : List ℤ → Type 0
+Ended w = (k : ℕ) → k < 4 → getD w (20 + k) (pos 0) ≡ pos 0
+
 -- the first sixteen are small, and the last eight: each of these runs is a sum of 32 bits
 unfoldable pub narrow : List ℤ → Bool
 narrow w = small (take 16 w) && small (drop 16 w)

@@ -58,20 +58,25 @@ fn narrow(taps: &[i16]) -> bool
     false
 }
 
-// One sample between those of a signal, by the two-sided filter: in two runs, since all the taps together are seldom small.
+// One sample between those of a signal, by the two-sided filter: by narrow taps in two runs, since all of them together are seldom small; by others the twenty alone, one by one.
 fn interpolated_sample(taps: &[i16], narrow: bool, signal: &[i16], from: usize) -> i64
-    requires { ⌜ (length (now taps) ≡ 24) × (narrow ≡ Window.narrow (now taps)) × (from + 24 ≤ length (now signal)) ⌝ }
+    requires { ⌜ (length (now taps) ≡ 24) × (narrow ≡ Window.narrow (now taps)) × (from + 24 ≤ length (now signal)) × Window.Ended (now taps) ⌝ }
     ensures { λ r. ⌜ r ≡ Window.sample (now (taps .entry)) (now (signal .entry)) from ⌝ }
 {
-    let middle = from + 16;
-    let end = from + 24;
-    let first = fold_products(0, &taps[..16], narrow, &signal[from..middle]);
-    fold_products(first, &taps[16..], narrow, &signal[middle..end])
+    if narrow {
+        let middle = from + 16;
+        let end = from + 24;
+        let first = fold_products(0, &taps[..16], true, &signal[from..middle]);
+        fold_products(first, &taps[16..], true, &signal[middle..end])
+    } else {
+        let end = from + 20;
+        fold_products(0, &taps[..20], false, &signal[from..end])
+    }
 }
 
 // At how many of the 80 predicted samples saturation changed the sum: each is made of samples before it, which stand as they were read.
 fn predict_clipped(taps: &[i16], narrow: bool, exc: &[i16], at: usize, delay: usize) -> u8
-    requires { ⌜ (length (now taps) ≡ 24) × (narrow ≡ Window.narrow (now taps)) × (154 ≤ at) × (at + 80 ≤ length (now exc)) × (20 ≤ delay) × (delay ≤ 144) ⌝ }
+    requires { ⌜ (length (now taps) ≡ 24) × (narrow ≡ Window.narrow (now taps)) × (154 ≤ at) × (at + 80 ≤ length (now exc)) × (20 ≤ delay) × (delay ≤ 144) × Window.Ended (now taps) ⌝ }
     ensures { λ r. ⌜ r ≡ count (λ (n : ℕ). Fixed.clips (Window.predictedSum (now (taps .entry)) delay at n (now (exc .entry)))) 80 ⌝ }
 {
     let mut clipped = 0u8;
@@ -84,7 +89,7 @@ fn predict_clipped(taps: &[i16], narrow: bool, exc: &[i16], at: usize, delay: us
 
 // The 80 samples, by a window of taps, and how many of them saturation changed. Each of those is at an end of 16 bits, so only a block with such a sample is counted.
 fn predict_from(taps: &[i16], narrow: bool, exc: &mut [i16], at: usize, delay: usize) -> u8
-    requires { ⌜ (length (now taps) ≡ 24) × (narrow ≡ Window.narrow (now taps)) × (154 ≤ at) × (at + 80 ≤ length (now exc)) × (20 ≤ delay) × (delay ≤ 144) ⌝ }
+    requires { ⌜ (length (now taps) ≡ 24) × (narrow ≡ Window.narrow (now taps)) × (154 ≤ at) × (at + 80 ≤ length (now exc)) × (20 ≤ delay) × (delay ≤ 144) × Window.Ended (now taps) ⌝ }
     ensures samples { λ _. ⌜ now (exc .exit) ≡ rewritten (Window.predicted (now (taps .entry)) delay at) at (now (exc .entry)) 80 ⌝ }
     ensures clipped { λ r. ⌜ r ≡ Window.clipped (now (taps .entry)) delay at (now (exc .entry)) ⌝ }
 {
@@ -122,7 +127,7 @@ fn mixed(value: i64, gain: i16, x: i16) -> i16
 
 // The innovation behind its guard, from sample first on.
 fn sharpen_from(taps: &[i16], narrow: bool, buf: &mut [i16], first: usize, gain: i16)
-    requires { ⌜ (length (now taps) ≡ 24) × (narrow ≡ Window.narrow (now taps)) × (length (now buf) ≡ 101) × (10 ≤ first) × (first ≤ 80) ⌝ }
+    requires { ⌜ (length (now taps) ≡ 24) × (narrow ≡ Window.narrow (now taps)) × (length (now buf) ≡ 101) × (10 ≤ first) × (first ≤ 80) × Window.Ended (now taps) ⌝ }
     ensures { λ _. ⌜ now (buf .exit) ≡ rewritten (Window.sharpened (now (taps .entry)) first gain) (21 + first) (now (buf .entry)) (80 - first) ⌝ }
 {
     let count = 80 - first;

@@ -4,9 +4,11 @@ ghost use Prim.Native.Nat.{_*_, _≤_};
 ghost use lib.IntN.{pos, natAbs};
 ghost use Rattle.fixed.specs.Wrap.{REACH};
 ghost use Rattle.fixed.specs.Fixed as Fixed;
+ghost use Rattle.reciprocal.specs.Narrow as Narrow;
 use fixed::Reciprocal;
 use fixed::acc;
 use fixed::fold;
+use fixed::fold_narrow;
 use fixed::hi;
 use fixed::magnitude;
 use fixed::sat;
@@ -52,6 +54,41 @@ pub fn restoring_divide(num: i64, den: i16, steps: u32) -> i64
     n
 }
 
+// What a step keeps of a number, from the difference.
+fn kept(num: i32, left: i32) -> i32
+    ensures { λ r. ⌜ r ≡ Narrow.kept num left ⌝ }
+{
+    if left >= 0 { left } else { num }
+}
+
+// The quotient's bit.
+fn bit(left: i32) -> i32
+    ensures { λ r. ⌜ r ≡ Narrow.bit left ⌝ }
+{
+    if left >= 0 { 1 } else { 0 }
+}
+
+// A step in 32 bits. What is kept and the bit are chosen between numbers that are there by then, and so without a branch, which could not be foretold.
+fn narrow_step(num: i32, den: i16) -> i32
+    requires { ⌜ Narrow.Below num den ⌝ }
+    ensures { λ r. ⌜ r ≡ Fixed.restoringStep num den ⌝ }
+{
+    let left = num - (den as i32) * 32768;
+    fold_narrow(kept(num, left) * 2, bit(left))
+}
+
+// As many steps in 32 bits.
+fn narrow_divide(num: i32, den: i16, steps: u32) -> i32
+    requires { ⌜ Narrow.Below num den ⌝ }
+    ensures { λ r. ⌜ r ≡ Fixed.restoringDivide num den steps ⌝ }
+{
+    let mut n = num;
+    for k in 0..steps {
+        n = narrow_step(n, den);
+    }
+    n
+}
+
 // The size of an accumulator.
 fn absolute(v: i64) -> i64
     requires { ⌜ natAbs v ≤ REACH ⌝ }
@@ -60,11 +97,16 @@ fn absolute(v: i64) -> i64
     if v < 0 { -v } else { v }
 }
 
-// The low 16 bits of 16383 by a size, fifteen steps.
+// The low 16 bits of 16383 by a size, fifteen steps. Of what is normalised only 0 has a size below 16384.
 fn reciprocal_bits(size: i16) -> i64
     ensures { λ r. ⌜ r ≡ pos (Fixed.residue 65536 (Fixed.restoringDivide (pos (16383 * 65536)) size 15)) ⌝ }
 {
-    restoring_divide(NUMERATOR, size, 15) & 65535
+    let divided = if size < 16384 {
+        restoring_divide(NUMERATOR, size, 15)
+    } else {
+        narrow_divide(NUMERATOR as i32, size, 15) as i64
+    };
+    divided & 65535
 }
 
 // 16383 by a normalised number's size, without its sign.

@@ -10,6 +10,8 @@ use lib.IntN.{ℤ, pos}
 use lib.ListN.{getD, length, take, drop, set, length-append, length-drop, length-set, drop-of-length-le, List·getD-append}
 use lib.Seq.{take-add, drop-at, length-take-le, take-suc-set, drop-append-le, take-at, take-all, getD-drop, getD-append-seam}
 use Prim.Native.Nat.{ℕ, zero, suc, _≤_, _<_, _-_, _+_}
+use Rattle.sequence.specs.Count.{count, count-same}
+use Rattle.sequence.specs.Table.{table, length-table, getD-table}
 use Rattle.fixed.specs.Fixed.{clips}
 use Rattle.fixed.specs.Clips.{atEnd, ends, changed-at-end, no-end, count-nowhere}
 use Rattle.synth.specs.Synth.{sample, sample-sum, sum, window, synthesis, memory, clipped}
@@ -86,6 +88,20 @@ at-window a m xs (suc n) k e h =
     (λ (d : k ≡ n). let p : 10 + k ≡ length w = omega (arith, l, d) in ap (λ (i : ℕ). getD (w ++ (y ∷ [])) i (pos 0)) p ∙ getD-append-seam w y [] (pos 0) ∙ ap (λ (i : ℕ). sample a (drop i (window a m xs i)) (getD xs i (pos 0))) (sym d))
     (λ (d : k < n). List·getD-append w (y ∷ []) (pos 0) (10 + k) (omega (arith, l)) ∙ at-window a m xs n k e d)
     (eq-or-lt-of-le (omega arith))
+
+-- what is saturated for output n
+abbrev pub value : List ℤ → List ℤ → List ℤ → ℕ → ℤ
+value a m xs n = sum a (drop n (window a m xs n)) (getD xs n (pos 0))
+
+-- of the sums that a block has left, as many are changed as its definition says
+pub all-clipped : (a m xs S : List ℤ) → S ≡ table (value a m xs) (length xs) → count (λ n. clips (getD S n (pos 0))) (length S) ≡ clipped a m xs
+unfolding clipped
+all-clipped a m xs S e =
+    let f : ℕ → ℤ = value a m xs in
+    let t : List ℤ = table f (length xs) in
+    ap (λ (l : List ℤ). count (λ n. clips (getD l n (pos 0))) (length l)) e
+    ∙ ap (count (λ n. clips (getD t n (pos 0)))) (length-table f (length xs))
+    ∙ count-same (λ n. clips (getD t n (pos 0))) (λ n. clips (f n)) (length xs) (λ k p. ap clips (getD-table f (length xs) k (pos 0) p))
 
 pub none-clipped : (a m xs : List ℤ) → length m ≡ 10 → ends (synthesis a m xs) ≡ 0 → clipped a m xs ≡ 0
 unfolding synthesis clipped

@@ -53,7 +53,7 @@ module _ (d : tie.After-delay) where
 predict-from-requires : tie.Need-predict-from-requires
 predict-from-requires c κs =
     let r = delay-range c in
-    (windowed c .size, c .before .before .before .narrow .ensures, s c .pre .1, s c .pre .2, r .0, r .1)
+    (windowed c .size, c .before .before .before .narrow .ensures, s c .pre .1, s c .pre .2, r .0, r .1, windowed c .rest)
 
 same-length : tie.Need-same-length
 same-length c = search needs

@@ -37,7 +37,7 @@ sub-interpolated-sample-2 : tie.Need-sub-interpolated-sample-2 Inv-loop μ-loop
 sub-interpolated-sample-2 c = search needs
 
 interpolated-sample-requires : tie.Need-interpolated-sample-requires Inv-loop μ-loop
-interpolated-sample-requires c κs = let s = c .before .before in (s .pre .0, s .pre .1, omega arith)
+interpolated-sample-requires c κs = let s = c .before .before in (s .pre .0, s .pre .1, omega arith, s .pre .6)
 
 fold-requires : tie.Need-fold-requires Inv-loop μ-loop
 fold-requires c κs = search needs

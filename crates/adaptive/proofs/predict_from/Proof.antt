@@ -42,7 +42,7 @@ sub-interpolated-sample-2 : tie.Need-sub-interpolated-sample-2 Inv-loop μ-loop
 sub-interpolated-sample-2 c = search needs
 
 interpolated-sample-requires : tie.Need-interpolated-sample-requires Inv-loop μ-loop
-interpolated-sample-requires c κs = let s = c .before .before .before in (s .pre .0, s .pre .1, omega arith)
+interpolated-sample-requires c κs = let s = c .before .before .before in (s .pre .0, s .pre .1, omega arith, s .pre .6)
 
 fold-requires : tie.Need-fold-requires Inv-loop μ-loop
 fold-requires c κs = search needs
@@ -132,7 +132,7 @@ predict-clipped-requires : tie.Need-predict-clipped-requires Inv-loop μ-loop
 predict-clipped-requires c κs =
     let l = c .before .before .before .before .before .before in
     let s = l .before in
-    (s .pre .0, s .pre .1, s .pre .2, omega (arith, l .loop .inv .1, s .pre .3), s .pre .4, s .pre .5)
+    (s .pre .0, s .pre .1, s .pre .2, omega (arith, l .loop .inv .1, s .pre .3), s .pre .4, s .pre .5, s .pre .6)
 
 same-length-2 : tie.Need-same-length-2 Inv-loop μ-loop
 same-length-2 c = search needs

@@ -80,7 +80,7 @@ module _ (b : tie.After-buf) where
 sharpen-from-requires : tie.Need-sharpen-from-requires
 sharpen-from-requires c κs =
     let r : (20 ≤ d c .delay .result) × (d c .delay .result ≤ 144) = rw (d c .delay .ensures) (sane-delay (s c .args .lag) (s c .pre .2)) in
-    (windowed c .size, c .before .before .narrow .ensures, search needs, omega arith, omega arith)
+    (windowed c .size, c .before .before .narrow .ensures, search needs, omega arith, omega arith, windowed c .rest)
 
 sub-copy : tie.Need-sub-copy
 sub-copy c = search needs

@@ -1,4 +1,4 @@
--- The array's first n + 10 places are the window after n outputs, and the outputs so far are its rest.
+-- The array's first n + 10 places are the window after n outputs, and the outputs so far are its rest; the sums so far are written.
 use borrow.Author.Needs.{needs}
 use native.Mathlib.Omega.{arith}
 use mathlib.Core.List.{List}
@@ -8,18 +8,19 @@ use lib.ListN.{length, getD, take, drop}
 use Prim.Native.Nat.{ℕ, _-_, _+_}
 use mir.Syntax.{w16, w64}
 use mir.Val.{toZ, ofZ}
+use Rattle.sequence.specs.Table.{Written, written-none, written-more, written-end}
 use Rattle.fixed.specs.Fixed as Fixed
 use Rattle.fixed.specs.Machine.{back}
 use Rattle.synth.specs.Synth as Synth
-use Rattle.synthesis.proofs.Window.{Filtered, filtered-none, filtered-more, filtered-end}
+use Rattle.synthesis.proofs.Window.{Filtered, filtered-none, filtered-ten, filtered-more, filtered-end, value}
 use Rattle.synthesis.proofs.filter.Statement.{statement}
 use Rattle.synthesis.proofs.filter.Tie as tie
 
 abbrev Inv-loop : tie.InvT-loop
-Inv-loop a input output₀ mem window₀ places n₀ output window n = (places ≡ length input) × Filtered a mem input window output n
+Inv-loop a input output₀ mem sums₀ window₀ places n₀ output sums window n = (places ≡ length input) × Filtered a mem input window output n × Written (value a mem input) (length input) sums n
 
 abbrev μ-loop : tie.MeasureT-loop
-μ-loop a input output₀ mem window₀ places n₀ output window n = places - n
+μ-loop a input output₀ mem sums₀ window₀ places n₀ output sums window n = places - n
 
 array-borrow-prefix-window : tie.Need-array-borrow-prefix-window Inv-loop μ-loop
 array-borrow-prefix-window c = search needs
@@ -33,7 +34,7 @@ copy-requires c κs = search needs
 loop-holds : tie.Need-loop-holds Inv-loop μ-loop
 loop-holds c =
     let b = c .before .before .before .before in
-    (refl, filtered-none (b .args .a .now) (b .args .mem .now) (b .args .input .now) (b .pre .0 .1) (c .before .copy .last .0) _ (b .args .output .now) (c .before .copy .ensures) refl (b .pre .1 .1))
+    (refl, filtered-none (b .args .a .now) (b .args .mem .now) (b .args .input .now) (b .pre .0 .1) (c .before .copy .last .0) _ (b .args .output .now) (c .before .copy .ensures) refl (b .pre .1 .1), written-none (value (b .args .a .now) (b .args .mem .now) (b .args .input .now)) (length (b .args .input .now)) (b .args .sums .now) (b .pre .1 .2))
 
 add-end : tie.Need-add-end Inv-loop μ-loop
 add-end c = search needs
@@ -77,7 +78,13 @@ mul-y c = search needs
 slice-set-from-y : tie.Need-slice-set-from-y Inv-loop μ-loop
 slice-set-from-y c = search needs
 
--- a turn: the output
+mul-v : tie.Need-mul-v Inv-loop μ-loop
+mul-v c = search needs
+
+slice-set-from-v : tie.Need-slice-set-from-v Inv-loop μ-loop
+slice-set-from-v c = search needs
+
+-- a turn: the sum, and the output
 module _ (c : tie.After-hi Inv-loop μ-loop) where
   abbrev l : tie.At-loop Inv-loop μ-loop
   l = c .before .before .before .before .before .before .before
@@ -91,16 +98,26 @@ module _ (c : tie.After-hi Inv-loop μ-loop) where
   abbrev xs : List ℤ
   xs = b .args .input .now
 
-  y-is : toZ w16 (ofZ w16 (c .hi .result)) ≡ Synth.sample (b .args .a .now) (take (n + 10 - n) (drop n (l .loop .window))) (getD xs n (pos 0))
+  -- the ten before the output, as the array has them
+  abbrev ten : List ℤ
+  ten = take (n + 10 - n) (drop n (l .loop .window))
+
+  v-is : toZ w64 (ofZ w64 (c .before .before .sum .result)) ≡ Synth.sum (b .args .a .now) ten (getD xs n (pos 0))
+  v-is = let v = c .before .before .sum in back w64 (v .result) (v .ok) ∙ simp (back w16 (getD xs n (pos 0)) (c .before .before .before .sum-arg2 .given)) at (v .ensures)
+
+  y-is : toZ w16 (ofZ w16 (c .hi .result)) ≡ Synth.sample (b .args .a .now) ten (getD xs n (pos 0))
   y-is =
       let h = c .hi in
       let t = c .before .sat in
-      let v = c .before .before .sum in
-      let v-is = back w64 (v .result) (v .ok) ∙ simp (back w16 (getD xs n (pos 0)) (c .before .before .before .sum-arg2 .given)) at (v .ensures) in
       back w16 (h .result) (h .ok)
       ∙ simp (back w64 (t .result) (t .ok)) at (h .ensures)
       ∙ ap (λ (z : ℤ). Fixed.hi z) (t .ensures ∙ ap (λ (z : ℤ). Fixed.sat z) v-is)
-      ∙ sym (Synth.sample-sum (b .args .a .now) (take (n + 10 - n) (drop n (l .loop .window))) (getD xs n (pos 0)))
+      ∙ sym (Synth.sample-sum (b .args .a .now) ten (getD xs n (pos 0)))
+
+  value-is : toZ w64 (ofZ w64 (c .before .before .sum .result)) ≡ value (b .args .a .now) (b .args .mem .now) xs n
+  value-is =
+      v-is
+      ∙ ap (λ (h : List ℤ). Synth.sum (b .args .a .now) h (getD xs n (pos 0))) (filtered-ten (b .args .a .now) (b .args .mem .now) xs (b .pre .0 .1) (l .loop .window) (l .loop .output) n (b .pre .1 .0) (l .loop .inv .1) (omega arith))
 
 add-n : tie.Need-add-n Inv-loop μ-loop
 add-n c = search needs
@@ -109,8 +126,11 @@ loop-less : tie.Need-loop-less Inv-loop μ-loop
 loop-less c = search needs
 
 loop-again : tie.Need-loop-again Inv-loop μ-loop
-loop-again c =
-    (refl, filtered-more (b c .args .a .now) (b c .args .mem .now) (xs c) (b c .pre .0 .1) (l c .loop .window) (l c .loop .output) (n c) _ (b c .pre .1 .0) (l c .loop .inv .1) (omega arith) (y-is c))
+loop-again c = (
+  refl,
+  filtered-more (b c .args .a .now) (b c .args .mem .now) (xs c) (b c .pre .0 .1) (l c .loop .window) (l c .loop .output) (n c) _ (b c .pre .1 .0) (l c .loop .inv .1) (omega arith) (y-is c),
+  written-more (value (b c .args .a .now) (b c .args .mem .now) (xs c)) (length (xs c)) (l c .loop .sums) (n c) _ (l c .loop .inv .2) (omega arith) (value-is c),
+)
 
 add-last : tie.Need-add-last Inv-loop μ-loop
 add-last c = search needs
@@ -136,12 +156,15 @@ same-length c = search needs
 same-length-2 : tie.Need-same-length-2 Inv-loop μ-loop
 same-length-2 c = search needs
 
+same-length-3 : tie.Need-same-length-3 Inv-loop μ-loop
+same-length-3 c = search needs
+
 returns : tie.Need-returns Inv-loop μ-loop
 returns c =
     let l = c .before .before .before .before .before .before in
     let b = l .before .before .before .before .before in
     let done = filtered-end (b .args .a .now) (b .args .mem .now) (b .args .input .now) (b .pre .0 .1) (l .loop .window) (l .loop .output) (l .loop .n) (b .pre .1 .0) (l .loop .inv .1) (omega arith) in
-    (done .0, c .before .copy2 .ensures ∙ done .1)
+    (done .0, (c .before .copy2 .ensures ∙ done .1, written-end (value (b .args .a .now) (b .args .mem .now) (b .args .input .now)) (length (b .args .input .now)) (l .loop .sums) (l .loop .n) (l .loop .inv .2) (omega arith)))
 
 pub filter-spec : {M : Type 1} → statement M
 filter-spec =
@@ -167,6 +190,8 @@ filter-spec =
     array-set-from-window
     mul-y
     slice-set-from-y
+    mul-v
+    slice-set-from-v
     add-n
     loop-less
     loop-again
@@ -178,4 +203,5 @@ filter-spec =
     copy-requires-2
     same-length
     same-length-2
+    same-length-3
     returns)
