@@ -17,6 +17,7 @@ function player(channel) {
 const sounds = data.map(player);
 let heard = Math.max(0, data.findIndex((channel) => channel.length > 0)); // the channel that is heard
 let sound = sounds[heard];
+let began = 0; // where it was last told to play from: by the time it plays a slow machine is past it
 
 const seconds = (at) => (at >= 60 ? `${Math.floor(at / 60)}:${(at % 60).toFixed(2).padStart(5, "0")}` : `${at.toFixed(2)}\u00a0s`);
 const end = () => Number(byId("at").max);
@@ -55,6 +56,7 @@ function go(at) {
 }
 
 async function play() {
+  began = sound.ended ? 0 : sound.currentTime;
   try {
     await sound.play();
   } catch (why) {
@@ -83,7 +85,7 @@ function state() {
   byId("play").textContent = sound.paused ? "Play" : "Pause";
   byId("said").className = "hidden";
   const whose = data[heard].whose && `${data[heard].whose}: `;
-  byId("said").textContent = `${whose}${sound.paused ? "Stopped at" : "Playing from"} ${seconds(sound.currentTime)}`;
+  byId("said").textContent = `${whose}${sound.paused ? `Stopped at ${seconds(sound.currentTime)}` : `Playing from ${seconds(began)}`}`;
   turn();
 }
 
