@@ -1,7 +1,7 @@
 """Debian's chromium without a window, told what to do over a pipe (its DevTools protocol): for tools/test_page."""
 import base64, itertools, json, os, select, shutil, subprocess, sys, tempfile, time
 
-PATIENCE = 60  # seconds for an answer: a machine may be busy
+PATIENCE = float(os.environ.get("BROWSER_PATIENCE", 60))  # seconds for an answer: a machine may be busy
 
 
 def found(who):
@@ -84,11 +84,13 @@ class Browser:
         return got["result"].get("value")
 
     def wait(self, script, what):
+        """What a script's expression gives as soon as that is true."""
         until = time.monotonic() + PATIENCE
-        while not self.run(script):
+        while not (got := self.run(script)):
             if time.monotonic() > until:
-                raise RuntimeError(f"waited {PATIENCE} seconds for {what}")
+                raise RuntimeError(f"waited {PATIENCE:g} seconds for {what}; BROWSER_PATIENCE may allow more")
             time.sleep(0.05)
+        return got
 
     def click(self, x, y):
         for kind in "mousePressed", "mouseReleased":
