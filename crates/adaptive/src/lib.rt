@@ -1,4 +1,6 @@
 // The adaptive codebook's prediction, and pitch sharpening.
+#![tactic(auto)]
+
 ghost use Rattle.std.specs.Prelude.{◌≡◌, ℕ, ◌+◌, ◌-◌, ◌≤◌, ◌<◌, length};
 ghost use Rattle.sequence.specs.Count.{count};
 ghost use Rattle.sequence.specs.Rewritten.{rewritten};

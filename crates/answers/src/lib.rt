@@ -1,4 +1,6 @@
 // The answer to a frame that is refused, and to one that is accepted.
+#![tactic(auto)]
+
 ghost use Rattle.std.specs.Prelude.{◌≡◌};
 ghost use Rattle.calls.specs.Celp as Celp;
 

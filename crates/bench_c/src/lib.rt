@@ -1,4 +1,6 @@
 // The decoder's calls over a whole recording, under C names, for tools/bench.
+#![tactic(auto)]
+
 ghost use Rattle.std.specs.Prelude.{◌≡◌, ◌*◌, ◌/◌, ◌≤◌, length};
 ghost use Rattle.tables.specs.Tables as Tables;
 ghost use Rattle.bench_c.specs.Bench as Bench;

@@ -22,8 +22,8 @@ use Rattle.state.specs.declared.State.{State}
 use Rattle.state.specs.State as Start
 use Rattle.calls.specs.Celp as Celp
 use Rattle.calls.specs.Run.{Event, heard, missed, step}
-use Rattle.hex.specs.Text.{digit, four_digits, sample_text, frame_text, refused_text}
-use Rattle.hex.specs.Lengths.{text_long}
+use Rattle.hex_lines.specs.Text.{digit, four_digits, sample_text, frame_text, refused_text}
+use Rattle.hex_lines.specs.Lengths.{text_long}
 use Rattle.heard.specs.Recording.{event, blank, answer_text, text, line_step, line_text}
 
 -- ---- the synthesis filter

@@ -19,7 +19,7 @@ use Rattle.stream.specs.Room.{over}
 use Rattle.stream.specs.Decimal.{decimal}
 use Rattle.stream.specs.Reads.{Read, input_of, answers_joined}
 use Rattle.stream.specs.Reads as Reads
-use Rattle.hex.specs.Held as Held
+use Rattle.hex_lines.specs.Held as Held
 use Rattle.table_file.specs.File as File
 use Rattle.state.specs.State as Start
 use Rattle.state.specs.declared.State.{State}
@@ -27,6 +27,7 @@ use Rattle.heard.specs.declared.Recorder.{Recorder}
 use Rattle.heard.specs.Recording.{transcript, is_start, line_step, line_text, tables_text}
 use Rattle.heard.specs.Start as Begin
 use Rattle.recording.specs.Feed as Feed
+use Rattle.recording.proofs.Told.{transcript_told}
 use Rattle.verdict.specs.Verdict.{same, is_frame, is_refusal, known, head, says, what, refusal, sixteen, difference, added, next, judge}
 use Rattle.verdict.specs.Same.{same_not}
 use Rattle.verdict.specs.Kept.{Kept, kept, Keeps, keeps_none, keeps_all}
@@ -621,7 +622,7 @@ told_whole : (file l : List ℕ) → wrote file (Begin.begin (File.words file) (
 told_whole file l =
     ap (λ (x : List ℕ). wrote file (Begin.begin (File.words file) (File.bytes file)) x ++ ending file (fed_all (fed file) (Begin.begin (File.words file) (File.bytes file)) x)) (sym (one_input l))
     ∙ sym (answers_joined (fed file) (written file) (ending file) (Begin.begin (File.words file) (File.bytes file)) (one_read l))
-    ∙ Feed.transcript_told (File.words file) (File.bytes file) (one_read l)
+    ∙ transcript_told (File.words file) (File.bytes file) (one_read l)
     ∙ ap (transcript (File.words file) (File.bytes file)) (one_input l)
 
 -- ---- THE PROGRAM, as its calls promise it: the start's text and, where that is no refusal, what is told of any turns, of which there are enough

@@ -1,4 +1,6 @@
 // Another decoder's lines beside ours: the first difference between the two. All of compare's text.
+#![tactic(auto)]
+
 ghost use Rattle.std.specs.Prelude.{◌≡◌, ◌≤◌, length};
 ghost use Rattle.stream.specs.Room.{over};
 ghost use Rattle.heard.specs.Start as Start;
@@ -27,7 +29,7 @@ fn closed(recorder: Recorder) -> Recorder
     ensures { result ≡ Talk.closed recorder }
 {
     let state = recorder.state;
-    let line = hex::empty();
+    let line = hex_lines::empty();
     Recorder {
         first: recorder.first,
         state,

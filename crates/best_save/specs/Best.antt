@@ -63,8 +63,7 @@ module _ (l : List Slot) (k : ℕ) where
       never i j w f e = let z : ◌≡◌ {A = ℕ} 0 1 = cc in omega arith
 
   -- it fits, and is beaten
-  kept : (n : ℕ) (b : Save) → Means l k n b → beaten k b (last n) ≡ true → Means l k (suc n) b
-  unfolding beaten
+  kept : (n : ℕ) (b : Save) → Means l k n b → cond (ltb b.at SLOTS) (leb (last n).frame b.frame) false ≡ true → Means l k (suc n) b
   kept n b m e = by (ltb b.at SLOTS) refl e
     where
       by : (t : Bool) → ltb b.at SLOTS ≡ t → cond t (leb (last n).frame b.frame) false ≡ true → Means l k (suc n) b
@@ -81,8 +80,7 @@ module _ (l : List Slot) (k : ℕ) where
       by false p q = absurd (let z : ◌≡◌ {A = ℕ} 0 1 = cc in omega arith)
 
   -- it fits, and is the best
-  taken : (n : ℕ) (b : Save) → n < SLOTS → Means l k n b → fits k (last n) ≡ true → beaten k b (last n) ≡ false → Means l k (suc n) (record { at = n; frame = (last n).frame })
-  unfolding beaten
+  taken : (n : ℕ) (b : Save) → n < SLOTS → Means l k n b → fits k (last n) ≡ true → cond (ltb b.at SLOTS) (leb (last n).frame b.frame) false ≡ false → Means l k (suc n) (record { at = n; frame = (last n).frame })
   taken n b h m f e =
       record {
         one = λ _. (omega arith, f, refl);
@@ -99,31 +97,34 @@ module _ (l : List Slot) (k : ℕ) where
       before : (i : ℕ) → i < n → fits k (slot_at l i) ≡ true → (slot_at l i).frame < (last n).frame
       before i r g = by (ltb b.at SLOTS) i refl e r g
 
-  next : (n : ℕ) (b : Save) → n < SLOTS → Means l k n b → Means l k (suc n) (better k b n (last n))
-  unfolding better
-  next n b h m = by (fits k (last n)) (beaten k b (last n)) refl refl
+  -- the better of the last and the best before it
+  abbrev better_of : ℕ → Save → Save
+  better_of n b = cond (fits k (last n)) (cond (cond (ltb b.at SLOTS) (leb (last n).frame b.frame) false) b (record { at = n; frame = (last n).frame })) b
+
+  next : (n : ℕ) (b : Save) → n < SLOTS → Means l k n b → Means l k (suc n) (better_of n b)
+  next n b h m = by (fits k (last n)) (cond (ltb b.at SLOTS) (leb (last n).frame b.frame) false) refl refl
     where
-      by : (f t : Bool) → fits k (last n) ≡ f → beaten k b (last n) ≡ t → Means l k (suc n) (cond f (cond t b (record { at = n; frame = (last n).frame })) b)
+      by : (f t : Bool) → fits k (last n) ≡ f → cond (ltb b.at SLOTS) (leb (last n).frame b.frame) false ≡ t → Means l k (suc n) (cond f (cond t b (record { at = n; frame = (last n).frame })) b)
       by false t p q = unfit n b m p
       by true true p q = kept n b m q
       by true false p q = taken n b h m p q
 
-  means_of : (n : ℕ) → n ≤ SLOTS → Means l k n (best_of k l n)
-  unfolding best_of
-  means_of zero h = record { one = λ p. absurd (omega arith); none = λ p i q. absurd (omega arith); largest = λ i q f. absurd (omega arith); lowest = λ i p q f. absurd (omega arith) }
-  means_of (suc n) h = next n (best_of k l n) (omega arith) (means_of n (omega arith))
+  -- of whatever is found so
+  means_of : (of : ℕ → Save) → of 0 ≡ record { at = SLOTS; frame = 0 } → ((n : ℕ) → of (suc n) ≡ better_of n (of n)) → (n : ℕ) → n ≤ SLOTS → Means l k n (of n)
+  means_of of p q zero h = rw p (record { one = λ p. absurd (omega arith); none = λ p i q. absurd (omega arith); largest = λ i q f. absurd (omega arith); lowest = λ i p q f. absurd (omega arith) })
+  means_of of p q (suc n) h = rw (q n) (next n (of n) (omega arith) (means_of of p q n (omega arith)))
 
   -- **the save that is found is held, at or below k; no held one at or below k is later, and none of a lower slot as late**
   pub best_means : best l k < SLOTS
       → (fits k (slot_at l (best l k)) ≡ true) × ((i : ℕ) → i < SLOTS → fits k (slot_at l i) ≡ true → (slot_at l i).frame ≤ (slot_at l (best l k)).frame) × ((i : ℕ) → i < best l k → fits k (slot_at l i) ≡ true → (slot_at l i).frame < (slot_at l (best l k)).frame)
-  unfolding best
+  unfolding best best_of better beaten
   best_means h =
-      let m = means_of SLOTS (omega arith) in
+      let m = means_of (best_of k l) refl (λ n. refl) SLOTS (omega arith) in
       let o = m.one h in
       let e = o.2 in
       (o.1, (λ i p f. let v = m.largest i p f in omega arith), (λ i p f. let v = m.lowest i p (omega arith) f in omega arith))
 
   -- **where none is found, none is held at or below k**
   pub none_means : SLOTS ≤ best l k → (i : ℕ) → i < SLOTS → fits k (slot_at l i) ≡ false
-  unfolding best
-  none_means h i p = (means_of SLOTS (omega arith)).none h i p
+  unfolding best best_of better beaten
+  none_means h i p = (means_of (best_of k l) refl (λ n. refl) SLOTS (omega arith)).none h i p

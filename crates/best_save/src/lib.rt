@@ -1,4 +1,6 @@
 // Which save serves best to reach frame k: of the held ones at or below k, the one with the largest frame number, of equal ones the one of the lowest slot.
+#![tactic(auto)]
+
 ghost use Rattle.std.specs.Prelude.{◌≡◌};
 ghost use Rattle.best_save.specs.Best as Best;
 
@@ -6,13 +8,14 @@ use slot_users::SLOTS;
 use slots::{Records, Slot};
 
 // The best so far: its slot, 16 for none, and its frame number.
-#[derive(Drop)]
+#[derive(Clone, Copy)]
 struct Save {
     at: usize,
     frame: u32,
 }
 
 // Slot j, with the record s, beside the best before it.
+#[tactic(auto, unfolding(crate::specs::Best::better, crate::specs::Best::fits, crate::specs::Best::beaten))]
 fn better(b: Save, j: usize, s: Slot, k: u32) -> Save
     ensures { result ≡ Best.better k b j s }
 {

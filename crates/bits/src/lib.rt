@@ -1,4 +1,6 @@
 // A frame of 20 bytes and the bits of its 24 fields, read and written: post_fec.rs, bits.rs. What the fields are is `frame_params`.
+#![tactic(auto)]
+
 ghost use Rattle.std.specs.Prelude.{◌≡◌, map, ℕ, ◌+◌, ◌*◌, ◌/◌, ◌%◌, ◌^◌, ◌<◌, ◌≤◌, length, get_or, take, drop};
 ghost use Rattle.sequence.specs.Table.{table};
 ghost use Rattle.bits.specs.Bits as Bits;
@@ -60,7 +62,7 @@ const WIDTHS: [u8; 24] = [
     4, 4, 16, 16, 3, 3, 1, 7, 6, 6, 8, 5, 4, 4, 16, 16, 3, 3, 1, 7, 6, 6, 8, 5,
 ];
 
-#[derive(Drop)]
+#[derive(Clone, Copy)]
 pub struct HalfParams {
     pub gain_low0: u16,
     pub gain_low1: u16,
@@ -76,13 +78,13 @@ pub struct HalfParams {
     pub relative_pitch: u16,
 }
 
-#[derive(Drop)]
+#[derive(Clone, Copy)]
 pub struct FrameParams {
     pub first: HalfParams,
     pub second: HalfParams,
 }
 
-#[derive(Drop)]
+#[derive(Clone, Copy)]
 pub enum Unpacked {
     Fields(FrameParams),
     Refused(u8),

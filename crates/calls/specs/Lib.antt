@@ -11,7 +11,4 @@ pub mod FramesLaws
 pub mod StateRule
 pub mod Near
 pub mod Receiver
-pub mod Relied
 pub mod SureAgain
-pub mod Regained
-pub mod WorkedCall

@@ -1,27 +1,20 @@
 -- The state rule is kept: a state that reset, a cold start, a decode or a missed frame gave is never refused with 5.
-use Rattle.std.specs.Prelude.{ℕ, zero, suc, ◌<◌, ◌≡◌, refl, Bool, true, false, ◌&&◌, T, leb, ℤ, Float, length, get_or}
-use Rattle.std.proofs.Common.{sym, subst, arith, le-leb}
-use mathlib.Core.List.{List, [], ◌∷◌}
+use Rattle.std.specs.Prelude.{ℕ, ◌<◌, ◌≡◌, refl, Bool, true, false, ◌&&◌, T, leb, ℤ, Float, length, get_or}
+use Rattle.std.proofs.Common.{sym, subst, arith}
+use mathlib.Core.List.{List}
 use Rattle.std.specs.Float.{nan}
 use Rattle.sequence.specs.All.{all, all_at, all_of, and_left, and_right}
 use Rattle.sequence.specs.Table.{length_table}
 use Rattle.floats.specs.Floats.{within}
 use Rattle.tables.specs.Tables.{check}
 use Rattle.tables.specs.Sound.{sound}
-use Rattle.bits.specs.Bits.{fields_of}
-use Rattle.bits.specs.Widths.{within_names, fields_within}
 use Rattle.gain.specs.Gain as Gain
 use Rattle.gain.specs.Kept.{initial_bounded}
 use Rattle.spectral.specs.Spectral as Spectral
 use Rattle.spectral.specs.Kept.{Words16, initial_kept}
-use Rattle.observation.specs.Kept.{Kept, decode_kept}
-use Rattle.sure.specs.Sure.{after, left_le}
+use Rattle.observation.specs.Kept.{Kept}
 use Rattle.state.specs.declared.State.{State}
 use Rattle.state.specs.State as State
-use Rattle.calls.specs.Celp.{refusal, raised, carried, decoded, next, accepted, answer, decode}
-use Rattle.calls.specs.Cases.{refused_state}
-use Rattle.calls.specs.Accepted.{accepted_means, obeyed_not_five}
-use Rattle.calls.specs.Run.{Event, heard, missed, step, run}
 
 -- a state that has as many floats as its arrays have places, and obeys the rule
 pub record Obeying (s : State) : Type 0 where
@@ -59,7 +52,7 @@ kept s o =
       gains_within = each s.gains 4 o.gains_long w.1;
     }
 
-obeying : (s : State) → Kept s.residuals s.gains → leb s.mark 2 ≡ true → leb s.sure 2 ≡ true → Obeying s
+pub obeying : (s : State) → Kept s.residuals s.gains → leb s.mark 2 ≡ true → leb s.sure 2 ≡ true → Obeying s
 unfolding State.obeys
 obeying s k m u =
     record {
@@ -83,39 +76,3 @@ module _ (words : List ℤ) (bytes : List ℕ) (w : Words16 words) where
       (record { residuals_long = length_table (Spectral.initial_at words) 30; residuals_within = initial_kept words w; gains_long = refl; gains_within = initial_bounded b })
       l
       l
-
-  -- an accepted frame
-  pub accepted_obeying : (s : State) (payload : List ℕ) (room : ℕ) → Obeying s → refusal words bytes s payload room ≡ 0 → Obeying (decode words bytes s payload room).state
-  unfolding decode answer accepted next raised decoded carried
-  accepted_obeying s payload room o z =
-      let a = accepted_means words bytes s payload room z in
-      let i = within_names (fields_of payload) (fields_within payload) in
-      rw z (obeying (next (decoded words bytes s payload) (raised s.mark) (after s.mark s.sure (decoded words bytes s payload).pitch_gains).left) (decode_kept w a.set_sound (carried s) s.residuals (fields_of payload) i.0 i.1 (kept s o)) (le-leb (raised s.mark) 2 (omega arith)) (le-leb _ 2 (left_le s.mark s.sure (decoded words bytes s payload).pitch_gains)))
-
-  -- any decode: a refused one hands the state back with 0 and 0
-  pub decode_obeying : (s : State) (payload : List ℕ) (room : ℕ) → Obeying s → Obeying (decode words bytes s payload room).state
-  decode_obeying s payload room o = by (refusal words bytes s payload room) refl
-    where
-      by : (n : ℕ) → refusal words bytes s payload room ≡ n → Obeying (decode words bytes s payload room).state
-      by zero e = accepted_obeying s payload room o e
-      by (suc n) e = rw (refused_state words bytes s payload room (λ z. omega arith)) (fallen_obeying s o)
-
-  step_obeying : (s : State) (e : Event) → Obeying s → Obeying (step words bytes s e)
-  unfolding step State.missed_frame
-  step_obeying s (heard payload room) o = decode_obeying s payload room o
-  step_obeying s missed o = fallen_obeying s o
-
-  -- ---- any sequence of calls
-  pub run_obeying : (s : State) (es : List Event) → Obeying s → Obeying (run words bytes s es)
-  unfolding run
-  run_obeying s [] o = o
-  run_obeying s (e ∷ es) o = run_obeying (step words bytes s e) es (step_obeying s e o)
-
-  -- from reset or a cold start no call of it is refused with 5
-  pub never_five : (s : State) (es : List Event) → Obeying s → (payload : List ℕ) (room : ℕ) → refusal words bytes (run words bytes s es) payload room ≡ 5 → ⊥
-  never_five s es o payload room e = obeyed_not_five words bytes (run words bytes s es) payload room (run_obeying s es o).rule e
-
-  -- and no missed frame answers 5
-  pub missed_never_five : (s : State) (es : List Event) → Obeying s → (State.missed_frame (run words bytes s es)).number ≡ 0
-  unfolding State.missed_frame
-  missed_never_five s es o = rw (run_obeying s es o).rule

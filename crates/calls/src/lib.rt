@@ -1,11 +1,13 @@
 // The calls' definitions, and what holds over any sequence of them: specs/ has all of it, and here stands what a decode answers.
+#![tactic(auto)]
+
 use half::Clipped;
 use observation::Subframe;
 use state::State;
 
 // What a decode answers: a refusal number, or 0, with 4 the set rule that is broken and its first offending place, the mark that the frame came with,
 // the next state, and what is reported.
-#[derive(Drop)]
+#[derive(Clone, Copy)]
 pub struct Answer {
     pub number: u8,
     pub rule: u8,

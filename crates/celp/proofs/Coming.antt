@@ -14,7 +14,8 @@ use Rattle.calls.specs.declared.Answer.{Answer}
 use Rattle.calls.specs.Celp as Celp
 use Rattle.calls.specs.Celp.{decode}
 use Rattle.calls.specs.Run.{step, run}
-use Rattle.calls.specs.StateRule.{Obeying, decode_obeying}
+use Rattle.calls.specs.StateRule.{Obeying}
+use Rattle.calls.proofs.StateRule.{decode_obeying}
 use Rattle.calls.specs.Frames.{cut, frames, heards, numbers, samples}
 
 -- the frames from the k-th of n on

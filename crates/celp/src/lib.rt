@@ -1,4 +1,6 @@
 // The decoder's calls on frames: decode, and up to 64 frames in one call. Reset, cold start and missed frame are those of `state`.
+#![tactic(auto)]
+
 ghost use Rattle.std.specs.Prelude.{◌≡◌, true, ◌*◌, length};
 ghost use Rattle.tables.specs.Sound.{Sound};
 ghost use Rattle.spectral.specs.Kept.{Words16};

@@ -4,7 +4,7 @@ use Rattle.std.proofs.Common.{ap, arith, length-take, take_all, ltb-true, ltb-fa
 use Rattle.stream.specs.Lines.{lines}
 use Rattle.stream.specs.Told.{texts}
 use Rattle.state.specs.State.{fault, cold_start, missed_frame}
-use Rattle.hex.specs.Text.{refused_text}
+use Rattle.hex_lines.specs.Text.{refused_text}
 use Rattle.table_file.specs.File as File
 use Rattle.heard.specs.Recording.{line_step, line_text, tables_text}
 use Rattle.channel_lines.specs.declared.Pair.{Pair}

@@ -10,9 +10,9 @@ use Rattle.stream.specs.Reads.{Read, input_of, answers, Took}
 use Rattle.stream.specs.Reads as Reads
 use Rattle.stream.specs.Told.{told, last, Machine, reads_told}
 use Rattle.state.specs.declared.State.{State}
-use Rattle.hex.specs.declared.Line.{Line}
-use Rattle.hex.specs.Text.{is_frame}
-use Rattle.hex.specs.Held as Hex
+use Rattle.hex_lines.specs.declared.Line.{Line}
+use Rattle.hex_lines.specs.Text.{is_frame}
+use Rattle.hex_lines.specs.Held as Hex
 use Rattle.table_file.specs.File as File
 use Rattle.heard.specs.declared.Said.{Said}
 use Rattle.heard.specs.Recording.{event, line_step, line_text, tables_text}

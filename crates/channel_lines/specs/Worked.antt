@@ -2,7 +2,7 @@
 use Rattle.std.specs.Prelude.{ℕ, ◌≡◌, refl, List, [], ◌∷◌, ℤ, replicate}
 use Rattle.stream.specs.Lines.{pieces, of_pieces, lines}
 use Rattle.stream.specs.Told.{texts}
-use Rattle.hex.specs.Text.{digit, is_frame, refused_text}
+use Rattle.hex_lines.specs.Text.{digit, is_frame, refused_text}
 use Rattle.heard.specs.Recording.{event, line_text}
 use Rattle.heard.specs.Recording as Recording
 use Rattle.channel_lines.specs.declared.Whose.TheVariants.{A, B, Neither}

@@ -1,16 +1,18 @@
 // What two channels on one table set write, as specs/ has it: whose a line is, and the end of one that is neither's. No call here decodes.
+#![tactic(auto)]
+
 ghost use Rattle.std.specs.Prelude.{◌≡◌, ◌≤◌, length};
 ghost use Rattle.stream.specs.Room.{over};
 ghost use Rattle.state.specs.State.{missed_frame};
-ghost use Rattle.hex.specs.Text as Text;
+ghost use Rattle.hex_lines.specs.Text as Text;
 ghost use Rattle.channel_lines.specs.Channels as Channels;
 ghost use Rattle.channel_lines.specs.Feed as Feed;
 
-use hex::Line;
+use hex_lines::Line;
 use state::State;
 
 // Whose a line is: the channel's whose letter and a blank it begins with, or neither's.
-#[derive(Drop)]
+#[derive(Clone, Copy)]
 pub enum Whose {
     A,
     B,
@@ -18,14 +20,14 @@ pub enum Whose {
 }
 
 // The two channels' states.
-#[derive(Drop)]
+#[derive(Clone, Copy)]
 pub struct Pair {
     pub a: State,
     pub b: State,
 }
 
 // What is kept of the line that is coming in: its first two bytes, how many of them there are, and what is kept of the rest.
-#[derive(Drop)]
+#[derive(Clone, Copy)]
 pub struct Held {
     pub first: u8,
     pub second: u8,
@@ -34,28 +36,28 @@ pub struct Held {
 }
 
 // Where a recording stands: the channels, and the line that is coming in.
-#[derive(Drop)]
+#[derive(Clone, Copy)]
 pub struct Recorder {
     pub channels: Pair,
     pub line: Held,
 }
 
 // The end of a line: how long its text is, and the channels that it leaves.
-#[derive(Drop)]
+#[derive(Clone, Copy)]
 pub struct Ended {
     pub n: usize,
     pub channels: Pair,
 }
 
 // What a chunk of the input leaves, and how long its text is.
-#[derive(Drop)]
+#[derive(Clone, Copy)]
 pub struct Fed {
     pub recorder: Recorder,
     pub n: usize,
 }
 
 // The start: the table file's refusal number, how long its text is, and where the recording stands.
-#[derive(Drop)]
+#[derive(Clone, Copy)]
 pub struct Started {
     pub recorder: Recorder,
     pub number: u8,
@@ -88,7 +90,7 @@ fn put_neither(out: &mut [u8]) -> usize
 {
     out[0] = b'?';
     out[1] = b' ';
-    2 + hex::put_refused(9, &mut out[2..])
+    2 + hex_lines::put_refused(9, &mut out[2..])
 }
 
 // The end of a line that may have been either's: a missed frame in both. Its text goes over the beginning of out.

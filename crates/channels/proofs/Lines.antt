@@ -6,8 +6,8 @@ use native.Mathlib.Omega.{arith}
 use lib.IntN.{ℤ}
 use lib.ListN.{drop}
 use Rattle.state.specs.State.{missed_frame}
-use Rattle.hex.specs.Text.{refused_text}
-use Rattle.hex.specs.Held as Hex
+use Rattle.hex_lines.specs.Text.{refused_text}
+use Rattle.hex_lines.specs.Held as Hex
 use Rattle.heard.specs.Recording.{line_text}
 use Rattle.channel_lines.specs.declared.Ended.{Ended}
 use Rattle.channel_lines.specs.declared.Pair.{Pair}

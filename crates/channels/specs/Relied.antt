@@ -9,10 +9,10 @@ use Rattle.state.specs.State.{cold_start}
 use Rattle.calls.specs.Celp.{decode}
 use Rattle.calls.specs.Mark.{mark_missed}
 use Rattle.calls.specs.Receiver.{after_all, Call, START, Follows, begun, between}
-use Rattle.calls.specs.Relied.{receiver_may_rely, cold_joins}
+use Rattle.calls.proofs.Relied.{receiver_may_rely, cold_joins}
 use Rattle.calls.specs.Run.{missed}
 use Rattle.calls.specs.Run as Run
-use Rattle.hex.specs.Text.{is_frame, payload, frame_text, refused_text}
+use Rattle.hex_lines.specs.Text.{is_frame, payload, frame_text, refused_text}
 use Rattle.heard.specs.Recording.{line_step, line_text}
 use Rattle.recording.specs.Late.{two_line, goes_without, sent_follows, lost_follows}
 use Rattle.channel_lines.specs.declared.Pair.{Pair}

@@ -1,11 +1,13 @@
 // Two channels on one table set, as text: a line says by its letter whose frame it is. All of the program's text.
+#![tactic(auto)]
+
 ghost use Rattle.std.specs.Prelude.{◌≡◌, [], ◌≤◌, ◌+◌, length};
 ghost use Rattle.io.specs.Counts.{IsPrefixLen};
 ghost use Rattle.tables.specs.Places.{WORDS};
 ghost use Rattle.stream.specs.Room.{over};
 ghost use Rattle.stream.specs.Machine.{written_all};
 ghost use Rattle.table_file.specs.File as File;
-ghost use Rattle.hex.specs.Held as Hex;
+ghost use Rattle.hex_lines.specs.Held as Hex;
 ghost use Rattle.heard.specs.Recording as Recording;
 ghost use Rattle.heard.specs.Start as Start;
 ghost use Rattle.channel_lines.specs.Channels as Channels;
@@ -13,13 +15,13 @@ ghost use Rattle.channel_lines.specs.Feed as Feed;
 
 use channel_lines::{Ended, Fed, Held, Pair, Recorder, Started, Whose};
 use heard::Said;
-use hex::Line;
+use hex_lines::Line;
 use state::State;
 
 fn empty() -> Held
     ensures { result ≡ Feed.kept [] }
 {
-    let rest = hex::empty();
+    let rest = hex_lines::empty();
     Held {
         first: 0,
         second: 0,
@@ -44,7 +46,7 @@ fn push(line: Held, b: u8) -> Held
         return l;
     }
     let rest = l.rest;
-    let more = hex::push(rest, b);
+    let more = hex_lines::push(rest, b);
     l.rest = more;
     l
 }

@@ -1,4 +1,6 @@
 // A code index taken apart: its class, its place in it, and the positions' digits; and refusal 7, by them.
+#![tactic(auto)]
+
 ghost use Rattle.std.specs.Prelude.{◌≡◌, true, ◌+◌, ◌-◌, ◌<◌, length};
 ghost use Rattle.tables.specs.Places.{WORDS};
 ghost use Rattle.tables.specs.SoundWords.{SoundWords};

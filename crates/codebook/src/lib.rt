@@ -1,4 +1,6 @@
 // The fixed codebook: the innovation that an index selects.
+#![tactic(auto)]
+
 ghost use Rattle.std.specs.Prelude.{◌≡◌, true, ◌+◌, ◌-◌, ◌≤◌, ◌<◌, min, length, nat_abs};
 ghost use Rattle.tables.specs.Places.{LSF_CB1, WORDS};
 ghost use Rattle.tables.specs.Places as Places;

@@ -1,10 +1,12 @@
 // The player's commands, a line each: `save K`, `hold S`, `let go S`, `seek K`, `play K N`.
+#![tactic(auto)]
+
 ghost use Rattle.std.specs.Prelude.{◌≡◌, ◌≤◌};
 ghost use Rattle.io.specs.Counts.{IsPrefixLen};
-ghost use Rattle.hex.specs.Held as Held;
+ghost use Rattle.hex_lines.specs.Held as Held;
 ghost use Rattle.commands.specs.Commands as Commands;
 
-use hex::Line;
+use hex_lines::Line;
 
 // Stands for no number: one more than the largest.
 const NONE: u64 = 4294967296;

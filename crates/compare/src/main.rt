@@ -1,13 +1,17 @@
 // Another decoder's lines beside ours: read, the calls of beside and judging, write. The first argument names the recording's file, the supplier's lines are standard input.
+#![tactic(auto)]
+
 ghost use Rattle.std.specs.Prelude.{◌≡◌, ◌≤◌, length};
 ghost use Rattle.heard.specs.Start as Start;
 
 use heard::Recorder;
 use judging::Judge;
-use libc::{STDERR_FILENO, STDIN_FILENO};
+use std::fs::File;
+use std::io::Read;
+use std::os::fd::AsRawFd;
 
 // What is unread of an input: the bytes of its chunk from one place to another; and whether the input is at its end.
-#[derive(Drop)]
+#[derive(Clone, Copy)]
 struct Unread {
     at: usize,
     to: usize,
@@ -23,7 +27,7 @@ struct Turn {
 }
 
 // Where the comparison stands between two turns: the judge, and what is unread of the recording and of the supplier's lines.
-#[derive(Drop)]
+#[derive(Clone, Copy)]
 struct Stand {
     judge: Judge,
     mine: Unread,
@@ -31,7 +35,13 @@ struct Stand {
 }
 
 // The next bytes, where none are left and the input is not at its end.
-fn refill(fd: i32, left: Unread, chunk: &mut [u8]) -> Unread
+fn refill<R: Read>(
+    rt: &HostRuntime,
+    from: &mut R,
+    what: &[u8],
+    left: Unread,
+    chunk: &mut [u8],
+) -> Unread
     requires { (length chunk.old ≡ 4096) × ((left.at ≤ left.to) × (left.to ≤ 4096)) }
     ensures { (result.at ≤ result.to) × (result.to ≤ 4096) }
 {
@@ -41,7 +51,10 @@ fn refill(fd: i32, left: Unread, chunk: &mut [u8]) -> Unread
     if left.over {
         return left;
     }
-    let got = pipe::read_from(fd, chunk);
+    let got = pipe::read_from(from, chunk);
+    if got.failed {
+        pipe::tell(rt, what, got.why);
+    }
     Unread {
         at: 0,
         to: got.n,
@@ -52,7 +65,8 @@ fn refill(fd: i32, left: Unread, chunk: &mut [u8]) -> Unread
 
 // A turn of the recording's.
 fn ours(
-    fd: i32,
+    rt: &HostRuntime,
+    from: &mut File,
     words: &[i16],
     file: &[u8],
     judge: Judge,
@@ -68,9 +82,8 @@ fn ours(
     ensures at_le_to { (result.left.at ≤ result.left.to) × (result.left.to ≤ 4096) }
     ensures said_bound { result.judge.said ≤ 133696 }
 {
-    let l = refill(fd, left, chunk);
+    let l = refill(rt, from, b"compare: cannot read the recording", left, chunk);
     if l.failed {
-        os::fail(b"compare: cannot read the recording");
         return Turn { judge, left: l };
     }
     let at = l.at;
@@ -89,7 +102,14 @@ fn ours(
 }
 
 // A turn of the supplier's, and what is told.
-fn theirs(judge: Judge, left: Unread, text: &[u8], chunk: &mut [u8], held: &mut [u8]) -> Turn
+fn theirs(
+    rt: &HostRuntime,
+    judge: Judge,
+    left: Unread,
+    text: &[u8],
+    chunk: &mut [u8],
+    held: &mut [u8],
+) -> Turn
     requires fact_1 { length chunk.old ≡ 4096 }
     requires fact_2 { (left.at ≤ left.to) × (left.to ≤ 4096) }
     requires fact_3 { length text.now ≡ 133696 }
@@ -99,9 +119,9 @@ fn theirs(judge: Judge, left: Unread, text: &[u8], chunk: &mut [u8], held: &mut 
     ensures said_bound { result.judge.said ≤ 133696 }
 {
     let mut room = [0u8; 128];
-    let l = refill(STDIN_FILENO, left, chunk);
+    let mut input = rt.stdin();
+    let l = refill(rt, &mut input, b"compare: cannot read", left, chunk);
     if l.failed {
-        os::fail(b"compare: cannot read");
         return Turn { judge, left: l };
     }
     let at = l.at;
@@ -109,9 +129,9 @@ fn theirs(judge: Judge, left: Unread, text: &[u8], chunk: &mut [u8], held: &mut 
     let h = judging::theirs(judge, text, held, &chunk[at..to], &mut room);
     let next = h.judge;
     let n = h.n;
-    let put = pipe::write(&room[..n]);
+    let put = pipe::write(rt, &room[..n]);
     if put.failed {
-        os::fail(b"compare: cannot write");
+        pipe::tell(rt, b"compare: cannot write", put.why);
     }
     Turn {
         judge: next,
@@ -124,16 +144,14 @@ fn theirs(judge: Judge, left: Unread, text: &[u8], chunk: &mut [u8], held: &mut 
     }
 }
 
-fn stopped() {
-    io::write_all(
-        STDERR_FILENO,
-        b"compare: stopped after 18446744073709551615 turns\n",
-    );
+fn stopped(rt: &HostRuntime) {
+    pipe::write_error(rt, b"compare: stopped after 18446744073709551615 turns\n");
 }
 
 // A turn of the input that is wanted.
 fn take_turn(
-    fd: i32,
+    rt: &HostRuntime,
+    from: &mut File,
     words: &[i16],
     file: &[u8],
     stand: Stand,
@@ -153,7 +171,7 @@ fn take_turn(
     let mine = stand.mine;
     let other = stand.other;
     if judge.theirs {
-        let t = theirs(judge, other, text, supplied, held);
+        let t = theirs(rt, judge, other, text, supplied, held);
         let next = t.judge;
         let left = t.left;
         return Stand {
@@ -162,7 +180,7 @@ fn take_turn(
             other: left,
         };
     }
-    let t = ours(fd, words, file, judge, mine, recorded, text);
+    let t = ours(rt, from, words, file, judge, mine, recorded, text);
     let next = t.judge;
     let left = t.left;
     Stand {
@@ -197,7 +215,7 @@ fn fresh() -> Unread
 
 // Each turn uses a byte or more, or is at an end. A proved loop has to end and nothing says that an input does, so the turns are
 // counted, as in console.
-fn play(fd: i32, words: &[i16], file: &[u8], recorder: Recorder)
+fn play(rt: &HostRuntime, from: &mut File, words: &[i16], file: &[u8], recorder: Recorder)
     requires { Start.Tables words.now file.now }
 {
     let mut text = [0u8; 133696];
@@ -214,7 +232,8 @@ fn play(fd: i32, words: &[i16], file: &[u8], recorder: Recorder)
             return;
         }
         stand = take_turn(
-            fd,
+            rt,
+            from,
             words,
             file,
             stand,
@@ -225,45 +244,50 @@ fn play(fd: i32, words: &[i16], file: &[u8], recorder: Recorder)
         );
         turns -= 1;
     }
-    stopped();
+    stopped(rt);
 }
 
-fn closed() {
-    io::write_all(STDERR_FILENO, b"compare: standard input is closed\n");
+fn closed(rt: &HostRuntime) {
+    pipe::write_error(rt, b"compare: standard input is closed\n");
 }
 
 // Where standard input is closed, the recording is opened in its place, and nothing is there to compare.
-fn main() {
+fn main(rt: HostRuntime) {
+    let mut name = io::buffer();
+    let named = pipe::argument(&rt, 1, &mut name);
+    let k = named.n;
+    match pipe::open(&rt, &name[..k]) {
+        Ok(mut recording) => {
+            if recording.as_raw_fd() == 0 {
+                closed(&rt);
+            } else {
+                opened(&rt, &mut recording);
+            }
+        }
+        Err(why) => pipe::tell(&rt, b"compare: cannot open the recording", why),
+    }
+}
+
+// Once the recording is open. A byte more than a table file has tells one that is too long.
+fn opened(rt: &HostRuntime, recording: &mut File) {
     let mut file = [0u8; 15835];
     let mut words = [0i16; 5963];
     let mut room = [0u8; 40];
-    let mut name = io::buffer();
-    let k = os::arg(1, &mut name);
-    let fd = os::open_read(&name[..k]);
-    if fd < 0 {
-        os::fail(b"compare: cannot open the recording");
-        return;
-    }
-    if fd == STDIN_FILENO {
-        closed();
-        return;
-    }
-    let got = pipe::read_file(b"tables.bin", &mut file);
+    let got = pipe::read_file(rt, b"tables.bin", &mut file);
     if got.failed {
-        os::fail(b"compare: cannot read tables.bin");
+        pipe::tell(rt, b"compare: cannot read tables.bin", got.why);
         return;
     }
     let n = got.n;
     let start = heard::begin(&file[..n], &mut words, &mut room);
     let m = start.n;
-    let put = pipe::write(&room[..m]);
+    let put = pipe::write(rt, &room[..m]);
     if put.failed {
-        os::fail(b"compare: cannot write");
+        pipe::tell(rt, b"compare: cannot write", put.why);
         return;
     }
     if start.number == 0 {
         let recorder = start.recorder;
-        play(fd, &words, &file[..n], recorder);
+        play(rt, recording, &words, &file[..n], recorder);
     }
-    libc::close(fd);
 }

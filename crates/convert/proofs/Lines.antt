@@ -9,8 +9,8 @@ use lib.ListN.{length, replicate, drop_of_length-le}
 use Rattle.stream.specs.Held.{shown_whole}
 use Rattle.stream.specs.Room.{over}
 use Rattle.stream.specs.Decimal.{figure_long}
-use Rattle.hex.specs.Text.{is_frame}
-use Rattle.hex.specs.Held.{held_line}
+use Rattle.hex_lines.specs.Text.{is_frame}
+use Rattle.hex_lines.specs.Held.{held_line}
 use Rattle.receiver.specs.declared.Answer.TheVariants.{Accepted, Refused}
 use Rattle.receiver.specs.Receiver.{answer}
 use Rattle.convert.specs.Convert.{refused, line_or}

@@ -10,7 +10,7 @@ use Rattle.sequence.specs.All.{all_of, and_left}
 use Rattle.stream.specs.Lines.{pieces, of_pieces, lines, plain, line_first}
 use Rattle.stream.specs.Told.{texts}
 use Rattle.stream.specs.Decimal.{decimal_in, decimal, figure}
-use Rattle.hex.specs.Text.{is_only, digit, value, is_frame, payload}
+use Rattle.hex_lines.specs.Text.{is_only, digit, value, is_frame, payload}
 use Rattle.receiver.specs.Receiver.{line_of, frame_of, is_line, answer, write_number, written, read_number, taken}
 use Rattle.receiver.specs.Lines.{line_length, line_digit}
 use Rattle.receiver.specs.RoundTrips.{read_written, read_accepted}

@@ -3,7 +3,7 @@ use Rattle.std.specs.Prelude.{ℕ, ◌/◌, ◌%◌, List, [], ◌∷◌, ◌++�
 use Rattle.stream.specs.Lines.{lines}
 use Rattle.stream.specs.Told.{texts}
 use Rattle.stream.specs.Decimal.{figure}
-use Rattle.hex.specs.Text.{digit, is_frame, is_only, payload}
+use Rattle.hex_lines.specs.Text.{digit, is_frame, is_only, payload}
 use Rattle.receiver.specs.Receiver.{line_of, frame_of, write_number, read_number}
 use Rattle.convert.specs.declared.Way.{Way}
 use Rattle.convert.specs.declared.Way.TheVariants.{ToReceiver, FromReceiver}

@@ -10,7 +10,7 @@ use Rattle.std.proofs.Math.ListN.{get_or-eq_default}
 use borrow.Author.Tests.{eqb-true, eqb-false, ltb-true}
 use Rattle.sequence.specs.All.{all, all_at, and_left, and_right}
 use Rattle.sequence.specs.Table.{table, table_of, table_same, length_table, get_or_table}
-use Rattle.hex.specs.Text.{digit, value, is_digit, is_frame, byte_at, payload}
+use Rattle.hex_lines.specs.Text.{digit, value, is_digit, is_frame, byte_at, payload}
 use Rattle.receiver.specs.Order.{table_map}
 use Rattle.convert.specs.Convert.{hexadecimal}
 

@@ -4,7 +4,7 @@ use Rattle.sequence.specs.Table.{table}
 use Rattle.stream.specs.Lines.{pieces, of_pieces, lines}
 use Rattle.stream.specs.Told.{texts}
 use Rattle.stream.specs.Decimal.{decimal_in, decimal, figure}
-use Rattle.hex.specs.Text.{is_only, digit, value, is_digit, is_frame, byte_at, payload, refused_text}
+use Rattle.hex_lines.specs.Text.{is_only, digit, value, is_digit, is_frame, byte_at, payload, refused_text}
 use Rattle.bits.specs.Bits as Bits
 use Rattle.bits.specs.Bits.{bit_at, byte_of}
 use Rattle.receiver.specs.Receiver.{inverted, receiver_bits, digits, line_of, is_line, order, bits_of, frame_of, write_number, read_number}

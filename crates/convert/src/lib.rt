@@ -1,15 +1,17 @@
 // A line of a file of frames: hexadecimal becomes a receiver's digits, or digits become hexadecimal.
+#![tactic(auto)]
+
 ghost use Rattle.std.specs.Prelude.{◌≡◌, ◌&&◌, [], ◌∷◌, ◌++◌, ◌+◌, ◌≤◌, ◌<◌, length};
 ghost use Rattle.stream.specs.Room.{over};
 ghost use Rattle.receiver.specs.Receiver as Receiver;
 ghost use Rattle.convert.specs.Convert as Convert;
 ghost use Rattle.convert.specs.Halves as Halves;
 
-use hex::Line;
+use hex_lines::Line;
 use receiver::Answer;
 
 // Which way a file goes.
-#[derive(Drop)]
+#[derive(Clone, Copy)]
 pub enum Way {
     ToReceiver,
     FromReceiver,
@@ -31,7 +33,7 @@ fn hexadecimal(payload: &[u8]) -> [u8; 40]
     let mut text = [b'0'; 40];
     let mut k = 0;
     while k < 40 {
-        text[k] = hex::digit(half(payload[k / 2], k));
+        text[k] = hex_lines::digit(half(payload[k / 2], k));
         k += 1;
     }
     text
@@ -81,8 +83,8 @@ fn to_receiver(line: &[u8], out: &mut [u8]) -> usize
     let mut text = [0u8; 40];
     stream::put(line, &mut text);
     let held = Line { text, n: 40 };
-    if hex::held_frame(held) {
-        return put_digits(hex::payload(text), out);
+    if hex_lines::held_frame(held) {
+        return put_digits(hex_lines::payload(text), out);
     }
     put_refused(9, out)
 }

@@ -13,7 +13,7 @@ use Rattle.stream.specs.Decimal.{decimal_in, decimal, figure}
 use Rattle.stream.specs.Held.{shown, zeros, shown_long, push_one}
 use Rattle.stream.specs.Room.{over}
 use Rattle.stream.specs.Machine.{Streamed, streamed_most}
-use Rattle.hex.specs.Text.{is_frame, payload}
+use Rattle.hex_lines.specs.Text.{is_frame, payload}
 use Rattle.receiver.specs.Receiver.{line_of, frame_of, is_line, write_number, read_number}
 use Rattle.receiver.specs.Lines.{line_length}
 use Rattle.receiver.specs.Calls.{line_long}

@@ -9,7 +9,7 @@ use Rattle.stream.specs.Machine.{fed_all, written_all}
 use Rattle.stream.specs.Reads.{Read, input_of, answers, Took}
 use Rattle.stream.specs.Reads as Reads
 use Rattle.stream.specs.Told.{told, last, Machine, reads_told}
-use Rattle.hex.specs.Text.{is_only, is_frame}
+use Rattle.hex_lines.specs.Text.{is_only, is_frame}
 use Rattle.receiver.specs.Receiver.{is_line, read_number}
 use Rattle.convert.specs.declared.Way.{Way}
 use Rattle.convert.specs.declared.Way.TheVariants.{ToReceiver, FromReceiver}

@@ -1,4 +1,6 @@
 // A file of frames, converted as its bytes are fed. All of the two programs' text.
+#![tactic(auto)]
+
 ghost use Rattle.std.specs.Prelude.{◌≡◌, [], ◌+◌, ◌*◌, ◌≤◌, min, length};
 ghost use Rattle.io.specs.Counts.{IsPrefixLen};
 ghost use Rattle.stream.specs.Room.{over};
@@ -9,21 +11,21 @@ ghost use Rattle.converter.specs.Feed as Feed;
 use convert::Way;
 
 // What is kept of the line that is coming in: its first 162 bytes, and how many it has, counted to 163.
-#[derive(Drop)]
+#[derive(Clone, Copy)]
 pub struct Held {
     pub text: [u8; 162],
     pub n: usize,
 }
 
 // Where a file stands: whether its first line is still to end, and the line that is coming in.
-#[derive(Drop)]
+#[derive(Clone, Copy)]
 pub struct Converter {
     pub first: bool,
     pub line: Held,
 }
 
 // What a chunk of the input leaves, and how long its text is.
-#[derive(Drop)]
+#[derive(Clone, Copy)]
 pub struct Fed {
     pub converter: Converter,
     pub n: usize,

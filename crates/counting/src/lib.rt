@@ -1,4 +1,6 @@
 // The counts of the term report, carried on from line to line.
+#![tactic(auto)]
+
 ghost use Rattle.std.specs.Prelude.{◌≡◌, []};
 ghost use Rattle.tally.specs.Figures as Figures;
 ghost use Rattle.tally.specs.Carried as Carried;

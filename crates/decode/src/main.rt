@@ -1,4 +1,6 @@
 // Decodes a recording: document 01's program, on its whole case.
-fn main() {
-    console::run();
+#![tactic(auto)]
+
+fn main(rt: HostRuntime) {
+    console::run(&rt);
 }

@@ -1,4 +1,6 @@
 // The decoder's calls for a player in C, over memory that it lends: the table file's bytes, a state's image, a payload, room for samples.
+#![tactic(auto)]
+
 ghost use Rattle.std.specs.Prelude.{◌≡◌, length};
 ghost use Rattle.shelf.specs.Shelf as Shelf;
 ghost use Rattle.desk_shelf.specs.Calls as Calls;

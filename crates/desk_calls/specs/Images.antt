@@ -127,31 +127,37 @@ module _ (tables b payload : List ℕ) (room : ℕ) (l : length b ≡ SIZE) wher
   unfolding Celp.refusal
   roomless h = rw (long_set h)
 
-  pub number_same : decode_number tables b payload room ≡ on (state b) (samples_of room)
-  unfolding decode_number barred samples_of
-  number_same = rw (eq-eqb (length b) 526 l) (by (eqb (length tables) 15834) (eqb room 640) (eqb-true (length tables) 15834) (eqb-false (length tables) 15834))
+  -- whatever number is barred so is the call's on the state
+  number_of : (n : ℕ) → n ≡ barred tables b (cond (not (eqb room ROOM)) 2 (on (state b) 320)) → n ≡ on (state b) (samples_of room)
+  unfolding barred samples_of
+  number_of n e = e ∙ rw (eq-eqb (length b) 526 l) (by (eqb (length tables) 15834) (eqb room 640) (eqb-true (length tables) 15834) (eqb-false (length tables) 15834))
     where
       by : (t r : Bool) → (t ≡ true → length tables ≡ 15834) → (t ≡ false → length tables ≡ 15834 → ⊥) → cond (not t) 1 (cond (not r) 2 (on (state b) 320)) ≡ on (state b) (cond r 320 0)
       by false r y n = sym (short_refused (cond r 320 0) (n refl))
       by true false y n = sym (roomless (y refl))
       by true true y n = refl
 
+  pub number_same : decode_number tables b payload room ≡ on (state b) (samples_of room)
+  unfolding decode_number
+  number_same = number_of (decode_number tables b payload room) refl
+
   -- the two ways that a frame goes
   pub image_taken : decode_number tables b payload room ≡ 0 → decode_image tables b payload room ≡ image (Celp.decode (words tables) (bytes tables) (state b) payload (samples_of room)).state
-  unfolding decode_image
+  unfolding decode_image decode_number
   image_taken z =
-      let a = accepted_means (words tables) (bytes tables) (state b) payload (samples_of room) (sym number_same ∙ z) in
+      let a = accepted_means (words tables) (bytes tables) (state b) payload (samples_of room) (sym (number_of (decode_number tables b payload room) refl) ∙ z) in
       rw (z, a.samples_long)
 
   pub image_refused : (decode_number tables b payload room ≡ 0 → ⊥) → decode_image tables b payload room ≡ lowered b
-  unfolding decode_image unmarked
+  unfolding decode_image unmarked decode_number
   image_refused z =
       let s = refusal_small (words tables) (bytes tables) (state b) payload (samples_of room) in
-      let e = number_same in
+      let e = number_of (decode_number tables b payload room) refl in
       rw (ne_eqb (decode_number tables b payload room) 0 z, ne_eqb (decode_number tables b payload room) 11 (λ q. omega arith))
 
   pub left_fallen : (decode_number tables b payload room ≡ 0 → ⊥) → (Celp.decode (words tables) (bytes tables) (state b) payload (samples_of room)).state ≡ fallen (state b)
-  left_fallen z = refused_state (words tables) (bytes tables) (state b) payload (samples_of room) (λ e. z (number_same ∙ e))
+  unfolding decode_number
+  left_fallen z = refused_state (words tables) (bytes tables) (state b) payload (samples_of room) (λ e. z (number_of (decode_number tables b payload room) refl ∙ e))
 
 -- the room after it has the bytes of what the call on states leaves in a buffer whose bytes it had
 module _ (tables b payload : List ℕ) (xs : List ℤ) (l : length b ≡ SIZE) (n : length xs ≡ 320) where
@@ -160,13 +166,13 @@ module _ (tables b payload : List ℕ) (xs : List ℤ) (l : length b ≡ SIZE) (
       let m = length-map xs (unsigned 2) in
       length_all 2 (map (unsigned 2) xs) ∙ omega arith
 
-  number_here : decode_number tables b payload (length (sample_bytes xs)) ≡ Celp.refusal (words tables) (bytes tables) (state b) payload 320
+  number_here : (k : ℕ) → k ≡ barred tables b (cond (not (eqb (length (sample_bytes xs)) ROOM)) 2 (Celp.refusal (words tables) (bytes tables) (state b) payload 320)) → k ≡ Celp.refusal (words tables) (bytes tables) (state b) payload 320
   unfolding samples_of
-  number_here = number_same tables b payload (length (sample_bytes xs)) l ∙ rw (eq-eqb (length (sample_bytes xs)) 640 room_long)
+  number_here k e = number_of tables b payload (length (sample_bytes xs)) l k e ∙ rw (eq-eqb (length (sample_bytes xs)) 640 room_long)
 
   pub samples_same : decode_samples tables b payload (sample_bytes xs) ≡ sample_bytes (Celp.samples (words tables) (bytes tables) (state b) payload xs)
-  unfolding decode_samples Celp.samples Celp.written
-  samples_same = rw (number_here, n) (by (Celp.refusal (words tables) (bytes tables) (state b) payload 320))
+  unfolding decode_samples decode_number Celp.samples Celp.written
+  samples_same = rw (number_here (decode_number tables b payload (length (sample_bytes xs))) refl, n) (by (Celp.refusal (words tables) (bytes tables) (state b) payload 320))
     where
       by : (k : ℕ) → cond (eqb k 0) (sample_bytes (Celp.written k (words tables) (bytes tables) (state b) payload (replicate 320 (pos 0)))) (sample_bytes xs) ≡ sample_bytes (Celp.written k (words tables) (bytes tables) (state b) payload xs)
       by zero = refl

@@ -1,4 +1,6 @@
 // The unpacker and the packer for a player in C, over bytes that it lends. `desk` has these calls under C names.
+#![tactic(auto)]
+
 ghost use Rattle.std.specs.Prelude.{◌≡◌, ◌+◌, ◌*◌, ◌/◌, ◌%◌, ◌<◌, length};
 ghost use Rattle.sequence.specs.Table.{table};
 ghost use Rattle.bits.specs.Bits as Bits;

@@ -126,7 +126,7 @@ sample_held t f x h p =
 after_held : (words : List ℤ) (f : OutputFilter) (xs : List ℤ) → Filter f → Small 32768 xs → Filter (Postfilter.after words f xs)
 unfolding Postfilter.after
 after_held words f [] h s = h
-after_held words f (x ∷ xs) h s = after_held words _ xs (sample_held (Postfilter.taps_of words) f x h (s 0)) (λ k. s (suc k))
+after_held words f (x ∷ xs) h s = after_held words (Postfilter.filter_sample (Postfilter.taps_of words) f x).filter xs (sample_held (Postfilter.taps_of words) f x h (s 0)) (λ k. s (suc k))
 
 -- ---- a half: what it carries on
 pub record Carried (c : Core) : Type 0 where

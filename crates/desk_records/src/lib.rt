@@ -1,4 +1,6 @@
 // Slot records as bytes that a player in C lends, 5 each: read and written.
+#![tactic(auto)]
+
 ghost use Rattle.std.specs.Prelude.{◌≡◌, ◌*◌, ◌<◌, length};
 ghost use Rattle.std.proofs.lemmas.List.Edits.{sets};
 ghost use Rattle.desk_records.specs.Records as Records;

@@ -1,4 +1,6 @@
 // The shelf for a player in C, over bytes that it lends: slot records of 5 bytes, images, an image. `desk` has these calls under C names.
+#![tactic(auto)]
+
 ghost use Rattle.std.specs.Prelude.{◌≡◌, length};
 ghost use Rattle.shelf.specs.Shelf as Shelf;
 ghost use Rattle.desk_shelf.specs.Calls as Calls;

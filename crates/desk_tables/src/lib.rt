@@ -1,4 +1,6 @@
 // The table check for a player in C, over bytes that it lends. `desk` has it under a C name.
+#![tactic(auto)]
+
 ghost use Rattle.std.specs.Prelude.{◌≡◌, ◌<◌, length};
 ghost use Rattle.table_file.specs.File as File;
 ghost use Rattle.state.specs.State as State;

@@ -1,4 +1,6 @@
 // Sharpening gains for the fixed codebook's innovation.
+#![tactic(auto)]
+
 ghost use Rattle.std.specs.Prelude.{◌≡◌};
 ghost use Rattle.excitation.specs.Excitation as Excitation;
 

@@ -35,7 +35,8 @@ use Rattle.calls.specs.declared.Answer.{Answer}
 use Rattle.calls.specs.Celp.{refusal, silent, refused, carried, decoded, accepted, answer, decode}
 use Rattle.calls.specs.Run.{Event, run}
 use Rattle.calls.specs.Accepted.{accepted_means}
-use Rattle.calls.specs.StateRule.{Obeying, floats_within, kept, decode_obeying, run_obeying}
+use Rattle.calls.specs.StateRule.{Obeying, floats_within, kept}
+use Rattle.calls.proofs.StateRule.{decode_obeying, run_obeying}
 
 -- a float that is no NaN
 abbrev pub number : Float → Bool

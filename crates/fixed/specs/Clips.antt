@@ -35,14 +35,19 @@ clips_beyond z = go (lt_z z (negsuc 2147483647)) (lt_z (pos 2147483647) z) refl 
     go false false e f = alike z
 
 -- ---- what was changed is at an end
-pub clipped_end : (P : ℤ → Type 0) → P (pos 32767) → P (negsuc 32767) → (z : ℤ) → clips z ≡ true → P (hi (sat z))
+-- of a difference that is told
+end_of : (P : ℤ → Type 0) → P (pos 32767) → P (negsuc 32767) → (z : ℤ) → not (eqb (nat_abs (sat z -ℤ z)) 0) ≡ true → P (hi (sat z))
 unfolding clamp wrap signed residue
-clipped_end P top bottom z h = go (lt_z z (negsuc 2147483647)) (lt_z (pos 2147483647) z) (sym (clips_beyond z) ∙ h)
+end_of P top bottom z h = go (lt_z z (negsuc 2147483647)) (lt_z (pos 2147483647) z) h
   where
-    go : (s t : Bool) → (s || t) ≡ true → P (hi (cond s (negsuc 2147483647) (cond t (pos 2147483647) z)))
+    go : (s t : Bool) → not (eqb (nat_abs (cond s (negsuc 2147483647) (cond t (pos 2147483647) z) -ℤ z)) 0) ≡ true → P (hi (cond s (negsuc 2147483647) (cond t (pos 2147483647) z)))
     go true t e = bottom
     go false true e = top
-    go false false e = absurd (false≢true e)
+    go false false e = absurd (false≢true (sym (alike z) ∙ e))
+
+pub clipped_end : (P : ℤ → Type 0) → P (pos 32767) → P (negsuc 32767) → (z : ℤ) → clips z ≡ true → P (hi (sat z))
+unfolding clips
+clipped_end P top bottom z h = end_of P top bottom z h
 
 -- ---- so a block without a sample at an end has none that was changed
 unfoldable pub at_end : ℤ → Bool
@@ -52,8 +57,8 @@ unfoldable pub ends : List ℤ → ℕ
 ends block = count (λ n. at_end (get_or block n (pos 0))) (length block)
 
 pub changed_at_end : (z : ℤ) → clips z ≡ true → at_end (hi (sat z)) ≡ true
-unfolding at_end
-changed_at_end z h = clipped_end (λ (x : ℤ). at_end x ≡ true) refl refl z h
+unfolding clips at_end
+changed_at_end z h = end_of (λ (x : ℤ). at_end x ≡ true) refl refl z h
 
 grows : (test : ℕ → Bool) (m d : ℕ) → count test m ≤ count test (m + d)
 grows test m zero = let e : m + 0 ≡ m = omega arith in omega (arith, ap (count test) e)

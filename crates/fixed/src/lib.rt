@@ -1,4 +1,6 @@
 // The 16-bit machine with an accumulator of 40 bits: products, shifts, and sums that wrap.
+#![tactic(auto)]
+
 ghost use Rattle.std.specs.Prelude.{◌≡◌, ◌≤◌, nat_abs, ◌+ℤ◌, length};
 ghost use Rattle.std.specs.Int.Signed.{mag};
 ghost use Rattle.sequence.specs.Count as Count;
@@ -140,7 +142,7 @@ pub fn magnitude(v: i64) -> u64
 }
 
 // A quotient and the exponent that it takes. Those of an accumulator that holds 0 are what the steps leave, and no reciprocal.
-#[derive(Drop)]
+#[derive(Clone, Copy)]
 pub enum Reciprocal {
     Zero(i64, i32),
     Ordinary(i64, i32),

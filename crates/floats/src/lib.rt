@@ -1,4 +1,6 @@
 // f32 out of lent bytes, an integer rounded to f32 once, ties to even, and the rule of a bounded float.
+#![tactic(auto)]
+
 ghost use Rattle.std.specs.Prelude.{◌≡◌, ◌+◌, ◌*◌, ◌^◌, ◌<◌, ◌≤◌, false, T, length, pos, from_bits};
 ghost use Rattle.std.specs.Float.{fin, binary32};
 ghost use Rattle.std.specs.Float.Ieee.{lt, of_int};

@@ -13,8 +13,8 @@ use Rattle.stream.specs.Told.{after}
 use Rattle.state.specs.declared.State.{State}
 use Rattle.state.specs.State.{reset, cold_start}
 use Rattle.calls.specs.Run.{step}
-use Rattle.hex.specs.Text.{is_frame}
-use Rattle.hex.specs.Held.{kept, held_line}
+use Rattle.hex_lines.specs.Text.{is_frame}
+use Rattle.hex_lines.specs.Held.{kept, held_line}
 use Rattle.heard.specs.Recording.{event, is_start, Opening, opening, line_step}
 use Rattle.places.specs.Frames.{frames}
 use Rattle.places.specs.Places.{line_end, start_of, lines_none, lines_cons, start_nil, At, frame_at, at_more, none_at}

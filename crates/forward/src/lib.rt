@@ -1,12 +1,14 @@
 // Forward over a recording that is lent whole: the state that some of its frames leave.
+#![tactic(auto)]
+
 ghost use Rattle.std.specs.Prelude.{◌≡◌};
 ghost use Rattle.stream.specs.Lines.{lines};
 ghost use Rattle.calls.specs.Run.{heard, step};
-ghost use Rattle.hex.specs.Held as Held;
+ghost use Rattle.hex_lines.specs.Held as Held;
 ghost use Rattle.heard.specs.Recording as Recording;
 ghost use Rattle.forward.specs.Forward as Forward;
 
-use hex::Line;
+use hex_lines::Line;
 use state::State;
 
 // The state that a frame's call leaves.
@@ -22,9 +24,9 @@ fn hear(words: &[i16], bytes: &[u8], state: State, payload: [u8; 20]) -> State
 fn line_step(words: &[i16], bytes: &[u8], state: State, line: Line) -> State
     ensures { result ≡ Recording.line_step words.now bytes.now state (Held.held_line line) }
 {
-    if hex::held_frame(line) {
+    if hex_lines::held_frame(line) {
         let text = line.text;
-        return hear(words, bytes, state, hex::payload(text));
+        return hear(words, bytes, state, hex_lines::payload(text));
     }
     heard::missed(state)
 }

@@ -1,5 +1,5 @@
 -- The index and the class of each subframe of a half.
-use Rattle.core.specs.Prelude.{ℕ, List, ℤ}
+use Rattle.std.specs.Prelude.{ℕ, List, ℤ}
 use lib.Ieee.{Float}
 use Rattle.bits.specs.declared.HalfParams.{HalfParams}
 use Rattle.half.specs.declared.Core.{Core}

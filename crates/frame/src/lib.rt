@@ -1,5 +1,7 @@
 // An accepted frame: two half frames, one after the other, and what is reported of their subframes.
-ghost use Rattle.core.specs.Prelude.{◌≡◌, ◌<◌, true, length};
+#![tactic(auto)]
+
+ghost use Rattle.std.specs.Prelude.{◌≡◌, ◌<◌, true, length};
 ghost use Rattle.tables.specs.Sound.{Sound};
 ghost use Rattle.bits.specs.Widths.{InWidths};
 ghost use Rattle.observation.specs.Frame as Frame;
@@ -57,7 +59,7 @@ fn half(
 {
     let residual = residual(words, bytes, p);
     let lsp = predicted(words, bytes, &residuals, &residual, p.mode);
-    let half = core::decode(words, bytes, core, lsp, p, samples);
+    let half = half_frame::decode(words, bytes, core, lsp, p, samples);
     let next = spectral::push(residuals, residual);
     Step {
         half,

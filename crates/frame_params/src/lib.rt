@@ -1,4 +1,6 @@
 // The 24 fields of a frame by name: read off 20 bytes, written to them, and a gain index of two of them: bits.rs, and the two changes that mod.rs makes.
+#![tactic(auto)]
+
 ghost use Rattle.std.specs.Prelude.{◌≡◌, ◌+◌, ◌^◌, ◌<◌, ◌≤◌, leb, get_or, replicate};
 ghost use Rattle.bits.specs.Bits as Bits;
 

@@ -2,6 +2,8 @@
 // `B`: all frames from reset, B in a call; the last mark, a digest of each frame's number and samples, and one of the last state are said.
 // `P S N M`: one call from reset with mark M on the first P bytes, with rooms of S samples and N numbers; number, rule, place, mark and digests are said.
 // Rooms are filled before a call, so that what it leaves untouched is seen.
+#![tactic(auto)]
+
 ghost use Rattle.std.specs.Prelude.{◌≤◌, ◌<◌};
 
 use state::State;
@@ -61,17 +63,18 @@ fn state_digest(s: State) -> u64 {
     words_in(d, &fir)
 }
 
-fn say(n: u64, last: bool) {
-    io::print_decimal(libc::STDOUT_FILENO, n);
+fn say(rt: &HostRuntime, n: u64, last: bool) {
+    numbers::say_digits(rt, n);
     if last {
-        io::write_all(libc::STDOUT_FILENO, b"\n");
+        pipe::write(rt, b"\n");
     } else {
-        io::write_all(libc::STDOUT_FILENO, b" ");
+        pipe::write(rt, b" ");
     }
 }
 
 // One call, with so much of the rooms.
 fn once(
+    rt: &HostRuntime,
     words: &[i16],
     bytes: &[u8],
     start: State,
@@ -96,13 +99,13 @@ fn once(
         &mut numbers[..answers],
     );
     let state = r.state;
-    say(wide(r.number), false);
-    say(wide(r.rule), false);
-    say(r.place as u64, false);
-    say(wide(state.mark), false);
-    say(words_in(0, samples), false);
-    say(bytes_in(0, numbers), false);
-    say(state_digest(state), true);
+    say(rt, wide(r.number), false);
+    say(rt, wide(r.rule), false);
+    say(rt, r.place as u64, false);
+    say(rt, wide(state.mark), false);
+    say(rt, words_in(0, samples), false);
+    say(rt, bytes_in(0, numbers), false);
+    say(rt, state_digest(state), true);
 }
 
 // What is carried from call to call.
@@ -181,7 +184,7 @@ fn least(a: usize, b: usize) -> usize
 }
 
 // All frames, so many bytes in a call.
-fn all(words: &[i16], bytes: &[u8], start: State, frames: &[u8], size: usize)
+fn all(rt: &HostRuntime, words: &[i16], bytes: &[u8], start: State, frames: &[u8], size: usize)
     requires { 0 < size }
 {
     let mut c = Carried {
@@ -195,9 +198,9 @@ fn all(words: &[i16], bytes: &[u8], start: State, frames: &[u8], size: usize)
         at = to;
     }
     let state = c.state;
-    say(wide(state.mark), false);
-    say(c.digest, false);
-    say(state_digest(state), true);
+    say(rt, wide(state.mark), false);
+    say(rt, c.digest, false);
+    say(rt, state_digest(state), true);
 }
 
 fn asked(x: i64) -> usize
@@ -206,13 +209,20 @@ fn asked(x: i64) -> usize
     (numbers::size(x) % 65536) as usize
 }
 
-fn question(words: &[i16], bytes: &[u8], frames: &[u8], count: usize, n: [i64; 128]) {
+fn question(
+    rt: &HostRuntime,
+    words: &[i16],
+    bytes: &[u8],
+    frames: &[u8],
+    count: usize,
+    n: [i64; 128],
+) {
     let r = state::reset(words, bytes);
     let mut start = r.state;
     if count == 1 {
         let b = asked(n[0]);
         if 0 < b {
-            all(words, bytes, start, frames, 20 * b);
+            all(rt, words, bytes, start, frames, 20 * b);
         }
         return;
     }
@@ -223,6 +233,7 @@ fn question(words: &[i16], bytes: &[u8], frames: &[u8], count: usize, n: [i64; 1
     let mut numbers = [170u8; NUMBERS];
     if p <= frames.len() {
         once(
+            rt,
             words,
             bytes,
             start,
@@ -235,31 +246,31 @@ fn question(words: &[i16], bytes: &[u8], frames: &[u8], count: usize, n: [i64; 1
     }
 }
 
-fn each_line(words: &[i16], bytes: &[u8], frames: &[u8], text: &[u8]) {
+fn each_line(rt: &HostRuntime, words: &[i16], bytes: &[u8], frames: &[u8], text: &[u8]) {
     let mut at = 0;
     while at < text.len() {
         let q = questions::line(text, at);
         let numbers = q.numbers;
-        question(words, bytes, frames, q.count, numbers);
+        question(rt, words, bytes, frames, q.count, numbers);
         at = q.next;
     }
 }
 
-fn main() {
+fn main(rt: HostRuntime) {
     let mut file = [0u8; 15835];
     let mut words = [0i16; 5963];
-    let got = pipe::read_file(b"tables.bin", &mut file);
+    let got = pipe::read_file(&rt, b"tables.bin", &mut file);
     let n = got.n;
     let number = table_file::check_file(&file[..n], &mut words);
     if number != 0 {
-        say(wide(number), true);
+        say(&rt, wide(number), true);
         return;
     }
     let mut frames = [0u8; 1400];
-    let read = pipe::read_file(b"frames.bin", &mut frames);
+    let read = pipe::read_file(&rt, b"frames.bin", &mut frames);
     let m = read.n;
     let mut text = io::buffer();
-    let asked = pipe::read(&mut text);
+    let asked = pipe::read(&rt, &mut text);
     let k = asked.n;
-    each_line(&words, &file[11926..15834], &frames[..m], &text[..k]);
+    each_line(&rt, &words, &file[11926..15834], &frames[..m], &text[..k]);
 }

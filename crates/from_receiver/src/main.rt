@@ -1,6 +1,8 @@
 // Frames in a receiver's digits as hexadecimal.
+#![tactic(auto)]
+
 use convert::Way;
 
-fn main() {
-    convert_console::run(Way::FromReceiver);
+fn main(rt: HostRuntime) {
+    convert_console::run(&rt, Way::FromReceiver);
 }

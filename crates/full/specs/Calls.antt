@@ -6,18 +6,17 @@ use Rattle.std.proofs.Math.Path.{refl}
 use Rattle.std.proofs.Common.{◌∙◌, arith, length-append, take_at}
 use mathlib.Core.List.{List, [], ◌∷◌}
 use Rattle.bits.specs.Bits.{fields_of}
-use Rattle.bits.specs.Widths.{within_names, fields_within}
 use Rattle.gain.specs.Gain as Gain
 use Rattle.spectral.specs.Spectral as Spectral
 use Rattle.full.specs.Half.{new, restricted, filled}
 use Rattle.full.specs.Frame.{Native}
 use Rattle.full.specs.Frame as Full
-use Rattle.full.specs.FrameSame.{kept, frame_same}
+use Rattle.full.specs.FrameSame.{kept}
 use Rattle.state.specs.declared.State.{State}
 use Rattle.state.specs.State.{fallen, lsp_mean, initial, missed_frame}
-use Rattle.calls.specs.Celp.{refusal, carried, next, decoded, accepted, answer, decode, written, samples}
+use Rattle.calls.specs.Celp.{refusal, carried, decode, samples}
 use Rattle.calls.specs.Cases.{refused_state}
-use Rattle.calls.specs.Run.{Event, heard, missed, step, run}
+use Rattle.calls.specs.Run.{Event, heard, missed, step}
 
 -- a full decoder has the parts of our state
 pub record Carries (n : Native) (s : State) : Type 0 where
@@ -56,30 +55,6 @@ module _ (words : List ℤ) (bytes : List ℕ) where
     pub next : Carries (Full.decode words bytes n (fields_of payload)).native (decode words bytes s payload (length old)).state
     pub lags : (Full.decode words bytes n (fields_of payload)).native.core.previous_lag ≡ (Full.decode words bytes n (fields_of payload)).native.core.last_half_lag
 
-  accepted_carries : (n : Native) (s : State) (payload : List ℕ) (room : ℕ) → Carries n s → refusal words bytes s payload room ≡ 0 → Carries (Full.decode words bytes n (fields_of payload)).native (decode words bytes s payload room).state
-  unfolding decode answer accepted decoded next carried
-  accepted_carries n s payload room c z =
-      let i = within_names (fields_of payload) (fields_within payload) in
-      let a = frame_same words bytes n (fields_of payload) i.0 i.1 c.long in
-      record {
-        core = rw (a.core, c.core, c.residuals, z);
-        residuals = rw (a.residuals, c.core, c.residuals, z);
-        long = a.long;
-      }
-
-  pub accepted_alike : (n : Native) (s : State) (payload : List ℕ) (old : List ℤ) → Carries n s → refusal words bytes s payload (length old) ≡ 0 → Alike n s payload old
-  unfolding decode answer accepted decoded samples written
-  accepted_alike n s payload old c z =
-      let i = within_names (fields_of payload) (fields_within payload) in
-      let a = frame_same words bytes n (fields_of payload) i.0 i.1 c.long in
-      record {
-        pcm = rw (a.samples, c.core, c.residuals, z);
-        excitation = rw (a.excitation, c.core, c.residuals, z);
-        subframes = rw (a.subframes, c.core, c.residuals, z);
-        next = accepted_carries n s payload (length old) c z;
-        lags = a.lags;
-      }
-
   -- a refused or a missed frame is none for the Rust: the decoder that is not called keeps our state's parts
   fallen_carries : (n : Native) (s : State) → Carries n s → Carries n (fallen s)
   unfolding carried
@@ -101,14 +76,3 @@ module _ (words : List ℤ) (bytes : List ℕ) where
   beside n s [] = n
   beside n s (heard payload room ∷ es) = beside (fed (refusal words bytes s payload room) n payload) (step words bytes s (heard payload room)) es
   beside n s (missed ∷ es) = beside n (step words bytes s missed) es
-
-  heard_carries : (n : Native) (s : State) (payload : List ℕ) (room : ℕ) → Carries n s → (k : ℕ) → refusal words bytes s payload room ≡ k → Carries (fed k n payload) (decode words bytes s payload room).state
-  unfolding fed
-  heard_carries n s payload room c zero e = accepted_carries n s payload room c e
-  heard_carries n s payload room c (suc k) e = refused_carries n s payload room c (λ z. omega arith)
-
-  pub run_carries : (n : Native) (s : State) (es : List Event) → Carries n s → Carries (beside n s es) (run words bytes s es)
-  unfolding beside run step
-  run_carries n s [] c = c
-  run_carries n s (heard payload room ∷ es) c = run_carries _ _ es (heard_carries n s payload room c (refusal words bytes s payload room) refl)
-  run_carries n s (missed ∷ es) c = run_carries _ _ es (missed_carries n s c)

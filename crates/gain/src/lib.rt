@@ -1,4 +1,6 @@
 // The gain step: the code gain that a history of four log gains predicts, and the pitch gain.
+#![tactic(auto)]
+
 ghost use Rattle.std.specs.Prelude.{◌≡◌, pos};
 ghost use Rattle.gain.specs.Gain as Gain;
 ghost use Rattle.gain.specs.Ranges.{Carried};

@@ -1,4 +1,6 @@
 // Functions of `elementary` and `gain_state` under C names, for tools/sweep and tools/compare_gain.
+#![tactic(auto)]
+
 ghost use Rattle.std.specs.Prelude.{◌≡◌, not, ◌<◌, T, length};
 ghost use Rattle.std.specs.Float.Ieee.{is_nan};
 ghost use Rattle.std.specs.Float.Ieee.Scale.{finite};

@@ -1,4 +1,6 @@
 // The gains by the tables: of a subframe, by its gain index and its code; the history at reset; the figures of energy and amplitude.
+#![tactic(auto)]
+
 ghost use Rattle.std.specs.Prelude.{◌≡◌, ◌≤◌, ◌<◌, length};
 ghost use Rattle.tables.specs.Places.{BYTES};
 ghost use Rattle.gain.specs.Gain as Gain;

@@ -1,17 +1,18 @@
 -- A subframe's figures do not see the excitation. Two halves of the same fields and LSPs that start from the same LSPs, sharpening gain, last lag and gain history
 -- have the same figures, whatever excitation, synthesis memory and output filter they start from.
 use Rattle.std.specs.Prelude.{◌≡◌, List, [], ◌∷◌, ℕ, ℤ, Float}
-use Rattle.std.proofs.Math.Path.{refl}
+use Rattle.std.proofs.Math.Path.{refl, ap}
 use Rattle.std.proofs.Common.{sym, ◌∙◌}
 use Rattle.tables.specs.Tables.{log_gain}
 use Rattle.bits.specs.declared.HalfParams.{HalfParams}
 use Rattle.bits.specs.Bits.{gain_index_of}
+use Rattle.gain.specs.Gain as Gain
 use Rattle.half.specs.declared.Core.{Core}
 use Rattle.half.specs.declared.SubframeParams.{SubframeParams}
 use Rattle.half.specs.declared.SubframeTrace.{SubframeTrace}
 use Rattle.half.specs.declared.Half.{Half}
 use Rattle.half.specs.Core as Spec
-use Rattle.half.specs.Figures.{left_lsp, left_fixed, left_lag, left_gains, pushed}
+use Rattle.half.specs.Figures.{left_lsp, left_fixed, pushed}
 
 -- a trace but for its excitation
 unfoldable pub figures : SubframeTrace → SubframeTrace
@@ -57,12 +58,15 @@ module _ (words : List ℤ) (bytes : List ℕ) (lsp : List ℤ) (p : HalfParams)
 
   -- and it leaves the same LSPs, gain and lag in any case, the same gain history where it starts from the same
   pub half_alike : (c d : Core) → c.gains ≡ d.gains → Alike (half c).core (half d).core
-  half_alike c d g = record {
-    lsp = left_lsp words bytes c lsp p ∙ sym (left_lsp words bytes d lsp p);
-    fixed = left_fixed words bytes c lsp p ∙ sym (left_fixed words bytes d lsp p);
-    lag = left_lag words bytes c lsp p ∙ sym (left_lag words bytes d lsp p);
-    gains = rw (left_gains words bytes c lsp p, left_gains words bytes d lsp p, g);
-  }
+  unfolding Spec.half Spec.first Spec.second Spec.params Spec.decode_subframe Spec.traced Spec.split_params Gain.decode Gain.step pushed
+  half_alike c d g =
+      let k : (x : Core) → (half x).core.gains ≡ pushed bytes (pushed bytes x.gains (gain_index_of p 0)) (gain_index_of p 1) = λ x. refl in
+      record {
+        lsp = left_lsp words bytes c lsp p ∙ sym (left_lsp words bytes d lsp p);
+        fixed = left_fixed words bytes c lsp p ∙ sym (left_fixed words bytes d lsp p);
+        lag = refl;
+        gains = k c ∙ ap (λ (v : List Float). pushed bytes (pushed bytes v (gain_index_of p 0)) (gain_index_of p 1)) g ∙ sym (k d);
+      }
 
 -- ---- two halves, one after the other
 -- the log gains of their four subframes, the newest first
@@ -71,5 +75,5 @@ log_gains bytes p q = log_gain bytes (gain_index_of q 1) ∷ log_gain bytes (gai
 
 -- replace the whole gain history
 pub history_replaced : (words : List ℤ) (bytes : List ℕ) (c : Core) (l m : List ℤ) (p q : HalfParams) → (Spec.half words bytes (Spec.half words bytes c l p).core m q).core.gains ≡ log_gains bytes p q
-unfolding log_gains pushed
-history_replaced words bytes c l m p q = rw (left_gains words bytes (Spec.half words bytes c l p).core m q, left_gains words bytes c l p)
+unfolding log_gains pushed Spec.half Spec.first Spec.second Spec.params Spec.decode_subframe Spec.traced Spec.split_params Gain.decode Gain.step
+history_replaced words bytes c l m p q = refl

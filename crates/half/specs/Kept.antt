@@ -13,12 +13,13 @@ use Rattle.pitch.specs.Pitch as Pitch
 use Rattle.pitch.specs.Lags.{absolute_sane, relative_sane, sane_integer}
 use Rattle.code_index.specs.Codebook as Codebook
 use Rattle.code_index.specs.Ranges.{class_at_most}
+use Rattle.gain.specs.Gain as Gain
 use Rattle.gain.specs.Ranges.{Bounded}
 use Rattle.gain.specs.Kept.{decode_bounded}
 use Rattle.half.specs.declared.Core.{Core}
 use Rattle.half.specs.declared.Half.{Half}
 use Rattle.half.specs.Core as Spec
-use Rattle.half.specs.Figures.{lags, classes, indexes, left_fixed, left_lag, left_gains, left, pushed}
+use Rattle.half.specs.Figures.{lags, classes, indexes, left_fixed, left}
 
 -- ---- the gain that a subframe leaves
 abbrev InGains : ℤ → Type 0
@@ -55,15 +56,16 @@ module _ (words : List ℤ) (bytes : List ℕ) (core : Core) (lsp : List ℤ) (p
   classes_kept = rw ((classes words bytes core lsp p).0, (classes words bytes core lsp p).1) (class_le words p.code0, class_le words p.code1)
 
   pub gains_long : length h.core.gains ≡ 4
-  unfolding pushed
-  gains_long = rw (left_gains words bytes core lsp p)
+  unfolding Spec.half Spec.first Spec.second Spec.params Spec.decode_subframe Spec.traced Spec.split_params Gain.decode Gain.step
+  gains_long = refl
 
   module _ (w : InWidths p) where
     pub lags_kept : Pitch.Sane h.first.lag × Pitch.Sane h.second.lag
     lags_kept = rw ((lags words bytes core lsp p).0, (lags words bytes core lsp p).1) (absolute_sane p.absolute_pitch w.absolute_pitch, relative_sane p.relative_pitch _ w.relative_pitch)
 
     pub lag_kept : Pitch.InRange h.core.last_half_lag
-    lag_kept = rw (left_lag words bytes core lsp p) (sane_integer _ (relative_sane p.relative_pitch _ w.relative_pitch))
+    unfolding Spec.half Spec.second Spec.params Spec.decode_subframe Spec.traced Spec.split_params
+    lag_kept = sane_integer _ (relative_sane p.relative_pitch _ w.relative_pitch)
 
   pub gains_kept : SoundBytes bytes → Bounded core.gains → Bounded h.core.gains
   unfolding Spec.half Spec.second Spec.first Spec.params Spec.decode_subframe Spec.traced Spec.split_params

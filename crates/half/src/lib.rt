@@ -1,9 +1,11 @@
 // No function: what a half frame is, as definitions (specs/), and here the records that it is handed and that it leaves.
+#![tactic(auto)]
+
 use output_filter::OutputFilter;
 use pitch::Lag;
 
 // What a half frame carries on: the parts of the state but for the spectrum's.
-#[derive(Drop)]
+#[derive(Clone, Copy)]
 pub struct Core {
     pub lsp: [i16; 10],
     pub excitation: [i16; 154],
@@ -15,7 +17,7 @@ pub struct Core {
 }
 
 // What the frame's fields and the spectrum settle of a subframe.
-#[derive(Drop)]
+#[derive(Clone, Copy)]
 pub struct SubframeParams {
     pub lpc: [i16; 11],
     pub lag: Lag,
@@ -24,7 +26,7 @@ pub struct SubframeParams {
 }
 
 // Those of both subframes of a half.
-#[derive(Drop)]
+#[derive(Clone, Copy)]
 pub struct ParamsPair {
     pub first: SubframeParams,
     pub second: SubframeParams,
@@ -32,7 +34,7 @@ pub struct ParamsPair {
 
 // A subframe as it was decoded: the two gains, the gain history before it, its shaped innovation and its excitation among the rest, and
 // at how many steps of its reflection the residual was 0.
-#[derive(Drop)]
+#[derive(Clone, Copy)]
 pub struct SubframeTrace {
     pub lag: Lag,
     pub code_class: usize,
@@ -47,7 +49,7 @@ pub struct SubframeTrace {
 }
 
 // That, and what the next subframe starts from.
-#[derive(Drop)]
+#[derive(Clone, Copy)]
 pub struct Subframe {
     pub trace: SubframeTrace,
     pub sharpen_fixed: i16,
@@ -55,7 +57,7 @@ pub struct Subframe {
 }
 
 // At how many of a subframe's 80 samples saturation changed a value: in prediction, in mixing, in synthesis, in the output filter.
-#[derive(Drop)]
+#[derive(Clone, Copy)]
 pub struct Clipped {
     pub prediction: u8,
     pub mixing: u8,
@@ -64,35 +66,35 @@ pub struct Clipped {
 }
 
 // The first two of these.
-#[derive(Drop)]
+#[derive(Clone, Copy)]
 pub struct Counts {
     pub prediction: u8,
     pub mixing: u8,
 }
 
 // A subframe with them.
-#[derive(Drop)]
+#[derive(Clone, Copy)]
 pub struct Counted {
     pub subframe: Subframe,
     pub counts: Counts,
 }
 
 // What the synthesis filter leaves of a subframe, and at how many samples saturation changed a value.
-#[derive(Drop)]
+#[derive(Clone, Copy)]
 pub struct Memory {
     pub memory: [i16; 10],
     pub clipped: u8,
 }
 
 // What either filter leaves of two.
-#[derive(Drop)]
+#[derive(Clone, Copy)]
 pub struct Synthesised {
     pub memory: [i16; 10],
     pub first: u8,
     pub second: u8,
 }
 
-#[derive(Drop)]
+#[derive(Clone, Copy)]
 pub struct Filtered {
     pub filter: OutputFilter,
     pub first: u8,
@@ -100,7 +102,7 @@ pub struct Filtered {
 }
 
 // A half frame as it was decoded, and what the next one starts from.
-#[derive(Drop)]
+#[derive(Clone, Copy)]
 pub struct Half {
     pub core: Core,
     pub first: SubframeTrace,

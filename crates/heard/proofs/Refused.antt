@@ -11,7 +11,7 @@ use Rattle.tables.specs.Places.{WORDS, BYTES}
 use Rattle.tables.specs.Tables.{first_fault, check}
 use Rattle.state.specs.State.{fault}
 use Rattle.state.specs.Faults.{four_long, rule_of_six}
-use Rattle.hex.specs.Text.{tables_refused_text}
+use Rattle.hex_lines.specs.Text.{tables_refused_text}
 use Rattle.table_file.specs.File as File
 use Rattle.heard.specs.Recording.{tables_text}
 use Rattle.heard.specs.Start.{Tables, part_bytes}

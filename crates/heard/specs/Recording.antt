@@ -8,7 +8,7 @@ use Rattle.calls.specs.declared.Answer.{Answer}
 use Rattle.state.specs.State.{fault, reset, cold_start}
 use Rattle.calls.specs.Celp as Celp
 use Rattle.calls.specs.Run.{Event, heard, missed, step}
-use Rattle.hex.specs.Text.{digit, is_frame, is_only, payload, frame_text, refused_text, tables_refused_text}
+use Rattle.hex_lines.specs.Text.{digit, is_frame, is_only, payload, frame_text, refused_text, tables_refused_text}
 use Rattle.table_file.specs.File as File
 
 -- the call that a line stands for: one that is not 40 hex digits counts as a missed frame

@@ -4,7 +4,7 @@ use Rattle.std.proofs.Common.{arith, length-drop, take_all}
 use Rattle.state.specs.declared.State.{State}
 use Rattle.state.specs.State.{all_zero, cold_start}
 use Rattle.calls.specs.Run.{Event, step}
-use Rattle.hex.specs.Held.{kept}
+use Rattle.hex_lines.specs.Held.{kept}
 use Rattle.table_file.specs.File as File
 use Rattle.heard.specs.declared.Recorder.{Recorder}
 use Rattle.heard.specs.declared.Said.{Said}

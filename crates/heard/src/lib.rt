@@ -1,20 +1,22 @@
 // How a recording begins: from its table file, cold, or at reset behind a first `+`; and what a missed frame leaves.
+#![tactic(auto)]
+
 ghost use Rattle.std.specs.Prelude.{◌≡◌, ◌&&◌, ◌≤◌, length};
 ghost use Rattle.io.specs.Counts.{IsPrefixLen};
 ghost use Rattle.tables.specs.Places.{WORDS};
 ghost use Rattle.stream.specs.Room.{over};
 ghost use Rattle.table_file.specs.File as File;
-ghost use Rattle.hex.specs.Held as Held;
+ghost use Rattle.hex_lines.specs.Held as Held;
 ghost use Rattle.heard.specs.Recording as Recording;
 ghost use Rattle.heard.specs.Start as Start;
 ghost use Rattle.state.specs.State.{missed_frame, reset};
 
-use hex::Line;
+use hex_lines::Line;
 use state::State;
 use tables::Fault;
 
 // Where a recording stands: whether its first line is still to come, the decoder's state, and the line that is coming in.
-#[derive(Drop)]
+#[derive(Clone, Copy)]
 pub struct Recorder {
     pub first: bool,
     pub state: State,
@@ -22,14 +24,14 @@ pub struct Recorder {
 }
 
 // The end of a line: how long its text is, and the state that its call returned.
-#[derive(Drop)]
+#[derive(Clone, Copy)]
 pub struct Said {
     pub n: usize,
     pub state: State,
 }
 
 // The start: the table file's refusal number, how long its text is, and where the recording stands.
-#[derive(Drop)]
+#[derive(Clone, Copy)]
 pub struct Started {
     pub recorder: Recorder,
     pub number: u8,
@@ -42,7 +44,7 @@ fn from_cold(words: &[i16], bytes: &[u8]) -> Recorder
 {
     let r = state::cold_start(words, bytes);
     let state = r.state;
-    let line = hex::empty();
+    let line = hex_lines::empty();
     Recorder {
         first: true,
         state,
@@ -121,7 +123,7 @@ pub fn is_opening(first: bool, line: Line) -> bool
     ensures { result ≡ first && Recording.is_start (Held.held_line line) }
 {
     if first {
-        return hex::is_only(line, b'+');
+        return hex_lines::is_only(line, b'+');
     }
     false
 }

@@ -23,7 +23,7 @@ use Rattle.calls.specs.Celp.{refusal, refused, accepted, answer, decode, samples
 use Rattle.calls.specs.Accepted.{accepted_means}
 use Rattle.calls.specs.Mark.{mark_answered}
 use Rattle.calls.specs.Run.{heard, step}
-use Rattle.hex.specs.Text.{refused_text, frame_text}
+use Rattle.hex_lines.specs.Text.{refused_text, frame_text}
 use Rattle.heard.specs.Recording.{blank, answer_text, text}
 use Rattle.heard.specs.Start.{called}
 

@@ -1,13 +1,15 @@
 // What a line of a recording is answered with: a frame is decoded, any other line is a missed frame.
+#![tactic(auto)]
+
 ghost use Rattle.std.specs.Prelude.{◌≡◌, ◌+◌, ◌*◌, ◌≤◌, min, length};
 ghost use Rattle.stream.specs.Room.{over};
-ghost use Rattle.hex.specs.Held as Held;
+ghost use Rattle.hex_lines.specs.Held as Held;
 ghost use Rattle.heard.specs.Recording as Recording;
 ghost use Rattle.heard.specs.Start as Start;
 ghost use Rattle.calls.specs.Run.{heard};
 
 use heard::Said;
-use hex::Line;
+use hex_lines::Line;
 use state::State;
 
 // A frame's call: its text goes over the beginning of out.
@@ -23,12 +25,12 @@ fn hear(words: &[i16], bytes: &[u8], state: State, payload: [u8; 20], out: &mut 
     let number = a.number;
     if number != 0 {
         return Said {
-            n: hex::put_refused(number, out),
+            n: hex_lines::put_refused(number, out),
             state: next,
         };
     }
     Said {
-        n: hex::put_frame(a.mark, &samples, out),
+        n: hex_lines::put_frame(a.mark, &samples, out),
         state: next,
     }
 }
@@ -41,13 +43,13 @@ pub fn call(words: &[i16], bytes: &[u8], state: State, line: Line, out: &mut [u8
     ensures fits { result.n ≤ 1283 }
     ensures paid { result.n ≤ 32 * min line.n 41 + 32 }
 {
-    if hex::held_frame(line) {
+    if hex_lines::held_frame(line) {
         let text = line.text;
-        return hear(words, bytes, state, hex::payload(text), out);
+        return hear(words, bytes, state, hex_lines::payload(text), out);
     }
     let next = heard::missed(state);
     Said {
-        n: hex::put_refused(9, out),
+        n: hex_lines::put_refused(9, out),
         state: next,
     }
 }

@@ -1,4 +1,6 @@
 // A state as 526 bytes, and read back: the parts in document 01's order, the lowest byte first, a float by its bits.
+#![tactic(auto)]
+
 ghost use Rattle.std.specs.Prelude.{◌≡◌, map, ◌+◌, ◌*◌, ◌≤◌, length};
 ghost use Rattle.std.specs.Float.{binary32};
 ghost use Rattle.std.specs.Float.Ieee.{of_bits};

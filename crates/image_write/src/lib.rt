@@ -1,4 +1,6 @@
 // The image of a state written, its parts in document 01's order.
+#![tactic(auto)]
+
 ghost use Rattle.std.specs.Prelude.{◌≡◌, length};
 ghost use Rattle.image.specs.Image as Image;
 

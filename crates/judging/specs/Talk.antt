@@ -2,7 +2,7 @@
 use Rattle.std.specs.Prelude.{ℕ, ◌+◌, List, [], true, false, cond, eqb, ltb, leb, length, take}
 use Rattle.stream.specs.Lines.{pieces}
 use Rattle.stream.specs.Machine.{fed_all}
-use Rattle.hex.specs.Held as Held
+use Rattle.hex_lines.specs.Held as Held
 use Rattle.heard.specs.declared.Recorder.{Recorder}
 use Rattle.recording.specs.Feed as Feed
 use Rattle.verdict.specs.Verdict.{next}

@@ -1,4 +1,6 @@
 // Another decoder's lines as they come in, each judged beside ours, whose text is there.
+#![tactic(auto)]
+
 ghost use Rattle.std.specs.Prelude.{◌≡◌, ◌≤◌, length};
 ghost use Rattle.io.specs.Counts.{IsPrefixLen};
 ghost use Rattle.stream.specs.Room.{over};
@@ -8,7 +10,7 @@ use heard::Recorder;
 
 // Where the comparison stands: the recording, the number of the line that is looked at, how long the text of our line is (nothing where we have none), how many
 // bytes of theirs have come in, counted to 1,284, whose turn it is to be read, and whether all is told. Our text and their first bytes stand in lent buffers.
-#[derive(Drop)]
+#[derive(Clone, Copy)]
 pub struct Judge {
     pub recorder: Recorder,
     pub number: u64,
@@ -19,7 +21,7 @@ pub struct Judge {
 }
 
 // What a call leaves, how many bytes of its chunk it used, and how long its text is.
-#[derive(Drop)]
+#[derive(Clone, Copy)]
 pub struct Heard {
     pub judge: Judge,
     pub used: usize,

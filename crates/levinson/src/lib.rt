@@ -1,4 +1,6 @@
 // Reflection coefficients of LPC numbers, by the Levinson recursion backwards.
+#![tactic(auto)]
+
 ghost use Rattle.std.specs.Prelude.{◌≡◌, ◌<◌, pos, length, get_or, set};
 ghost use Rattle.reflection.specs.Reflection as Levinson;
 

@@ -1,4 +1,6 @@
 // What a refused frame and a missed one leave of a state's image: the last two bytes become 0.
+#![tactic(auto)]
+
 ghost use Rattle.std.specs.Prelude.{◌≡◌, length, set};
 
 // The place of an image's mark, and of how sure it is.

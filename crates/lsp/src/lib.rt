@@ -1,4 +1,6 @@
 // Line spectral conversions and interpolation.
+#![tactic(auto)]
+
 ghost use Rattle.std.specs.Prelude.{◌≡◌, ℕ, ◌<◌, ◌≤◌, pos, ◌≤ℤ◌, length, get_or};
 ghost use Rattle.tables.specs.Places.{WORDS};
 ghost use Rattle.fixed.specs.Fixed as Fixed;
@@ -214,7 +216,7 @@ pub fn midpoint(first: [i16; 10], second: [i16; 10]) -> [i16; 10]
     out
 }
 
-#[derive(Drop)]
+#[derive(Clone, Copy)]
 pub struct Pair {
     pub first: [i16; 11],
     pub second: [i16; 11],

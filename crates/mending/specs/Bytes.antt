@@ -5,7 +5,7 @@ use Rattle.std.proofs.lemmas.Bool.{false≢true, lt-leb}
 use Rattle.sequence.specs.All.{all, and_left, and_right}
 use Rattle.sequence.specs.Table.{table_same}
 use Rattle.stream.specs.Lines.{plain}
-use Rattle.hex.specs.Text.{value, is_digit, is_frame, byte_at, payload}
+use Rattle.hex_lines.specs.Text.{value, is_digit, is_frame, byte_at, payload}
 use Rattle.mending.specs.Repair.{is_return, is_blank, is_capital, bare, lower, cleaned, any}
 
 -- a digit in lower case: `0` to `9`, `a` to `f`

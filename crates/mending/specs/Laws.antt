@@ -5,7 +5,7 @@ use Rattle.std.proofs.lemmas.Bool.{false≢true}
 use Rattle.sequence.specs.All.{all, and_left}
 use Rattle.stream.specs.Lines.{plain}
 use Rattle.stream.specs.Decimal.{decimal}
-use Rattle.hex.specs.Text.{is_digit, is_frame, is_only, payload}
+use Rattle.hex_lines.specs.Text.{is_digit, is_frame, is_only, payload}
 use Rattle.mending.specs.Repair.{is_return, is_blank, is_capital, bare, lower, cleaned, passes, is_kept, mended, any, return, blank, letter, replaced, said, happened, entry}
 use Rattle.mending.specs.Bytes.{is_lower, clean_same, none_in, payload_same, frame_lower, lower_none, lower_digits, lower_line}
 

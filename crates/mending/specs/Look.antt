@@ -1,6 +1,6 @@
 -- A line looked through byte by byte, and its two texts by what was found.
 use Rattle.std.specs.Prelude.{ℕ, ◌+◌, List, [], ◌∷◌, ◌++◌, Bool, true, cond, length}
-use Rattle.hex.specs.Held as Held
+use Rattle.hex_lines.specs.Held as Held
 use Rattle.mending.specs.declared.Place.{Place}
 use Rattle.mending.specs.declared.Found.{Found}
 use Rattle.mending.specs.declared.Ended.{Ended}

@@ -7,9 +7,9 @@ use Rattle.std.proofs.Math.Bool.{true, false, cond, or-false, or-true, or_assoc}
 use Rattle.std.proofs.lemmas.Bool.{false≢true}
 use Rattle.sequence.specs.All.{all, and_left}
 use Rattle.stream.specs.Held.{shown, zeros, push_text_lem, push_count_lem, shown_same, shown_long}
-use Rattle.hex.specs.declared.Line.{Line}
-use Rattle.hex.specs.Text.{is_digit, is_frame, is_only}
-use Rattle.hex.specs.Held as Held
+use Rattle.hex_lines.specs.declared.Line.{Line}
+use Rattle.hex_lines.specs.Text.{is_digit, is_frame, is_only}
+use Rattle.hex_lines.specs.Held as Held
 use Rattle.mending.specs.declared.Place.{Place}
 use Rattle.mending.specs.declared.Found.{Found}
 use Rattle.mending.specs.declared.Ended.{Ended}

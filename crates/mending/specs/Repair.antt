@@ -3,7 +3,7 @@ use Rattle.std.specs.Prelude.{ℕ, ◌+◌, min, List, [], ◌∷◌, ◌++◌, 
 use Rattle.stream.specs.Lines.{pieces, lines}
 use Rattle.stream.specs.Told.{texts, pieces_told}
 use Rattle.stream.specs.Decimal.{decimal}
-use Rattle.hex.specs.Text.{is_frame, is_only}
+use Rattle.hex_lines.specs.Text.{is_frame, is_only}
 use Rattle.mending.specs.declared.Place.{Place}
 
 -- ---- a line

@@ -3,7 +3,7 @@ use Rattle.std.specs.Prelude.{ℕ, ◌≡◌, refl, List, [], ◌∷◌, ◌++�
 use Rattle.stream.specs.Lines.{pieces, of_pieces, lines}
 use Rattle.stream.specs.Told.{texts, pieces_told}
 use Rattle.stream.specs.Decimal.{decimal_in, decimal}
-use Rattle.hex.specs.Text.{value, is_digit, is_frame, is_only}
+use Rattle.hex_lines.specs.Text.{value, is_digit, is_frame, is_only}
 use Rattle.mending.specs.Repair.{is_return, is_blank, is_capital, bare, lower, cleaned, passes, is_kept, mended, any, return, blank, letter, replaced, said, happened, entry, step, line_text, last_text, line_entry, repaired, list}
 
 -- `A`, `Z` and the bytes beside them

@@ -1,23 +1,25 @@
 // A line that came back damaged, mended, and what is told of it.
+#![tactic(auto)]
+
 ghost use Rattle.std.specs.Prelude.{◌≡◌, true, ◌&&◌, ◌||◌, ◌+◌, ◌≤◌, min, length};
 ghost use Rattle.std.proofs.lemmas.List.Edits.{sets};
 ghost use Rattle.stream.specs.Room.{over};
-ghost use Rattle.hex.specs.Text as Text;
-ghost use Rattle.hex.specs.Held as Held;
+ghost use Rattle.hex_lines.specs.Text as Text;
+ghost use Rattle.hex_lines.specs.Held as Held;
 ghost use Rattle.mending.specs.Repair as Repair;
 ghost use Rattle.mending.specs.Look as Look;
 
-use hex::Line;
+use hex_lines::Line;
 
 // Where a file stands between two lines: the next line's number, and whether a `+` is in its place there.
-#[derive(Drop)]
+#[derive(Clone, Copy)]
 pub struct Place {
     pub number: u64,
     pub opens: bool,
 }
 
 // A line as it is looked through: what is held of it when it is cleaned, and what was in it.
-#[derive(Drop)]
+#[derive(Clone, Copy)]
 pub struct Found {
     pub line: Line,
     pub returns: bool,
@@ -26,7 +28,7 @@ pub struct Found {
 }
 
 // A line's end: the place behind it, and how long its two texts are.
-#[derive(Drop)]
+#[derive(Clone, Copy)]
 pub struct Ended {
     pub place: Place,
     pub repaired: usize,
@@ -67,7 +69,7 @@ fn look_at(found: Found, b: u8) -> Found
         };
     }
     if is_capital(b) {
-        let lowered = hex::push(line, b + 32);
+        let lowered = hex_lines::push(line, b + 32);
         return Found {
             line: lowered,
             returns,
@@ -75,7 +77,7 @@ fn look_at(found: Found, b: u8) -> Found
             letters: true,
         };
     }
-    let more = hex::push(line, b);
+    let more = hex_lines::push(line, b);
     Found {
         line: more,
         returns,
@@ -87,7 +89,7 @@ fn look_at(found: Found, b: u8) -> Found
 fn look(line: &[u8]) -> Found
     ensures { result ≡ Look.found line.now }
 {
-    let none = hex::empty();
+    let none = hex_lines::empty();
     let mut found = Found {
         line: none,
         returns: false,
@@ -108,7 +110,7 @@ fn is_start(opens: bool, line: Line) -> bool
     ensures { result ≡ opens && Text.is_only 43 (Held.held_line line) }
 {
     if opens {
-        return hex::is_only(line, b'+');
+        return hex_lines::is_only(line, b'+');
     }
     false
 }
@@ -118,13 +120,13 @@ fn passes(opens: bool, line: Line) -> bool
     ensures kept { result ≡ Repair.passes opens (Held.held_line line) }
     ensures whole { result ≡ true → line.n ≤ 40 }
 {
-    if hex::is_only(line, b'=') {
+    if hex_lines::is_only(line, b'=') {
         return true;
     }
     if is_start(opens, line) {
         return true;
     }
-    hex::held_frame(line)
+    hex_lines::held_frame(line)
 }
 
 // A line that is `-` already.
@@ -263,7 +265,7 @@ pub fn end_line(place: Place, line: &[u8], ended: bool, out: &mut [u8], list: &m
     let repaired = put_line(kept, clean, ended, out);
     let listed = put_entry(number, kept, dash, found, list);
     let after = next(number);
-    let equals = hex::is_only(clean, b'=');
+    let equals = hex_lines::is_only(clean, b'=');
     Ended {
         place: Place {
             number: after,

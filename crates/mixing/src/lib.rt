@@ -1,4 +1,6 @@
 // Mixing: 80 predicted samples and an innovation, each by its gain, summed and saturated.
+#![tactic(auto)]
+
 ghost use Rattle.std.specs.Prelude.{◌≡◌, ◌+◌, ◌≤◌, length};
 ghost use Rattle.half.specs.Core as Spec;
 

@@ -1,11 +1,11 @@
 // A question's numbers as words, floats and samples, and numbers as the text of an answer: what the replaying programs share. A float goes by its bits.
+#![tactic(auto)]
+
 ghost use Rattle.std.specs.Prelude.{◌≡◌, ◌<◌, ◌≤◌, ◌+◌, nat_abs, length};
 ghost use Rattle.std.specs.Float.{binary32};
 ghost use Rattle.std.specs.Float.Ieee.{to_bits};
 ghost use Rattle.sequence.specs.Table.{table};
 ghost use Rattle.questions.specs.Questions as Questions;
-
-use libc::STDOUT_FILENO;
 
 // The numbers from a place on, each cut to a word, as many as out has room for.
 pub fn words(n: [i64; 128], from: usize, out: &mut [i16])
@@ -71,29 +71,36 @@ pub fn size(x: i64) -> u64
     if x < 0 { m + 1 } else { m }
 }
 
-fn say_number(x: i64) {
+// A number that is not negative, in decimal.
+pub fn say_digits(rt: &HostRuntime, n: u64) {
+    let mut digits = [0u8; 20];
+    let k = io::decimal(n, &mut digits);
+    pipe::write(rt, &digits[..k]);
+}
+
+fn say_number(rt: &HostRuntime, x: i64) {
     if x < 0 {
-        io::write_all(STDOUT_FILENO, b"-");
+        pipe::write(rt, b"-");
     }
-    io::print_decimal(STDOUT_FILENO, size(x));
+    say_digits(rt, size(x));
 }
 
 // The numbers, with a blank between them.
-pub fn say_numbers(numbers: &[i64]) {
+pub fn say_numbers(rt: &HostRuntime, numbers: &[i64]) {
     let mut i = 0;
     while i < numbers.len() {
         if 0 < i {
-            io::write_all(STDOUT_FILENO, b" ");
+            pipe::write(rt, b" ");
         }
-        say_number(numbers[i]);
+        say_number(rt, numbers[i]);
         i += 1;
     }
 }
 
 // The numbers, as a line.
-pub fn say(numbers: &[i64]) {
-    say_numbers(numbers);
-    end_line();
+pub fn say(rt: &HostRuntime, numbers: &[i64]) {
+    say_numbers(rt, numbers);
+    end_line(rt);
 }
 
 pub fn wide_word(x: i16) -> i64
@@ -103,21 +110,21 @@ pub fn wide_word(x: i16) -> i64
 }
 
 // The words, with a blank between them and, where something stands before them, in front.
-pub fn say_words(w: &[i16], follows: bool) {
+pub fn say_words(rt: &HostRuntime, w: &[i16], follows: bool) {
     let mut gap = follows;
     let mut i = 0;
     while i < w.len() {
         if gap {
-            io::write_all(STDOUT_FILENO, b" ");
+            pipe::write(rt, b" ");
         }
         gap = true;
-        say_number(wide_word(w[i]));
+        say_number(rt, wide_word(w[i]));
         i += 1;
     }
 }
 
-pub fn end_line() {
-    io::write_all(STDOUT_FILENO, b"\n");
+pub fn end_line(rt: &HostRuntime) {
+    pipe::write(rt, b"\n");
 }
 
 // A float's bits; of a NaN those of the one that the definitions have.
@@ -128,20 +135,20 @@ pub fn to_bits(x: f32) -> u32
 }
 
 // The floats by their bits, as a line.
-pub fn say_floats(x: &[f32]) {
+pub fn say_floats(rt: &HostRuntime, x: &[f32]) {
     let mut i = 0;
     while i < x.len() {
         if 0 < i {
-            io::write_all(STDOUT_FILENO, b" ");
+            pipe::write(rt, b" ");
         }
-        io::print_decimal(STDOUT_FILENO, to_bits(x[i]) as u64);
+        say_digits(rt, to_bits(x[i]) as u64);
         i += 1;
     }
-    end_line();
+    end_line(rt);
 }
 
 // The words, as a line.
-pub fn say_line(w: &[i16]) {
-    say_words(w, false);
-    end_line();
+pub fn say_line(rt: &HostRuntime, w: &[i16]) {
+    say_words(rt, w, false);
+    end_line(rt);
 }

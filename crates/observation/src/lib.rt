@@ -1,4 +1,6 @@
 // What a frame leaves, and what is reported of its four subframes, by its halves: the Rust's Observation, and more.
+#![tactic(auto)]
+
 ghost use Rattle.std.specs.Prelude.{◌≡◌, ◌++◌, ◌<◌, ◌≤◌, length};
 ghost use Rattle.tables.specs.Places.{BYTES};
 ghost use Rattle.observation.specs.Frame as Frame;
@@ -8,7 +10,7 @@ use half::{Clipped, Core, Half, SubframeTrace};
 use slices::copy;
 
 // What is reported of a subframe.
-#[derive(Drop)]
+#[derive(Clone, Copy)]
 pub struct Subframe {
     // Gain index, correction, the four numbers of the gain history, amplitude, energy, code gain, pitch gain, lag, class.
     pub figures: [f32; 12],
@@ -21,21 +23,21 @@ pub struct Subframe {
 }
 
 // A half frame, and the residuals that the next one starts from.
-#[derive(Drop)]
+#[derive(Clone, Copy)]
 pub struct Step {
     pub half: Half,
     pub residuals: [f32; 30],
 }
 
 // Both halves of a frame, as they were decoded.
-#[derive(Drop)]
+#[derive(Clone, Copy)]
 pub struct Both {
     pub first: Step,
     pub second: Step,
 }
 
 // A frame: what the next one starts from, and what is reported.
-#[derive(Drop)]
+#[derive(Clone, Copy)]
 pub struct Decoded {
     pub core: Core,
     pub residuals: [f32; 30],

@@ -1,4 +1,6 @@
 // What a frame's answer, a `=` and a first `+` leave of the term report, without the call that answers.
+#![tactic(auto)]
+
 ghost use Rattle.std.specs.Prelude.{◌≡◌, true, false};
 ghost use Rattle.state.specs.State.{reset, cold_start};
 ghost use Rattle.tally.specs.Carried as Carried;

@@ -9,8 +9,7 @@ use Rattle.std.proofs.Math.IntN.{ℤ}
 use Rattle.std.proofs.lemmas.List.{length-map}
 use Rattle.std.proofs.Math.ListN.{get_or-map}
 use Rattle.std.specs.Int.Signed.{shr_z, lt_z}
-use Rattle.sequence.specs.Count.{count, count_same}
-use Rattle.sequence.specs.Total.{total}
+use Rattle.sequence.specs.Count.{count}
 use Rattle.fixed.specs.Fixed.{residue, signed, wrap, clamp, acc, fold, sat, clips, hi, trunc32, mul, shift}
 use Rattle.fixed.specs.Abs.{abs_mul_le}
 use Rattle.fixed.specs.Integers.{mul_add, mul_mul}
@@ -22,8 +21,7 @@ use Rattle.fixed.specs.Clips.{clips_beyond, at_end, ends, no_end, count_nowhere}
 use Rattle.output_filter.specs.declared.Lines.{Lines}
 use Rattle.output_filter.specs.declared.OutputFilter.{OutputFilter}
 use Rattle.output_filter.specs.declared.Taps.{Taps}
-use Rattle.output_filter.specs.Postfilter as Postfilter
-use Rattle.output_filter.specs.Postfilter.{taps_of, at, inputs, section_sum, filter_section, filter_sample, outputs, after, rounded, rounded_sum, rounded_sum_lem, scaled, sample_clips, clipped}
+use Rattle.output_filter.specs.Postfilter.{taps_of, at, section_sum, rounded, rounded_sum, rounded_sum_lem, scaled}
 
 -- ---- a section alone
 -- the delay lines of the section that begins at place s, and a filter of two sections' lines
@@ -163,24 +161,6 @@ pub scaled_is : (value : ℤ) → nat_abs value ≤ 32768 → scaled value ≡ s
 unfolding scaled
 scaled_is value h = rounded_sum_lem (acc (mul value (pos 19661))) (pos 1) ∙ hi_short _ ∙ ap short (fifths_is value h)
 
-scaling_clips : (value : ℤ) → nat_abs value ≤ 32768 → clips (rounded_sum (acc (mul value (pos 19661))) (pos 1)) ≡ beyond (fifths value)
-scaling_clips value h = clips_wide (rounded_sum (acc (mul value (pos 19661))) (pos 1)) ∙ ap beyond (fifths_is value h)
-
--- the ends are scaled beyond 16 bits
-shown : (v : ℤ) → beyond v ≡ true → beyond (fifths (short v)) ≡ true
-unfolding beyond short clamp scaled_by
-shown v h = go (lt_z v (negsuc 32767)) (lt_z (pos 32767) v) h
-  where
-    go : (s t : Bool) → (s || t) ≡ true → beyond (fifths (cond s (negsuc 32767) (cond t (pos 32767) v))) ≡ true
-    go true t e = refl
-    go false true e = refl
-    go false false e = absurd (false≢true e)
-
-implied : (a b c : Bool) → (b ≡ true → c ≡ true) → (a || b || c) ≡ (a || c)
-implied true b c h = refl
-implied false true c h = sym (h refl)
-implied false false c h = refl
-
 -- ---- none is changed where no sample is at an end behind the first section, and none at last
 neither : (a b : Bool) → (a ≡ true → ⊥) → (b ≡ true → ⊥) → (a || b) ≡ true → ⊥
 neither true b f g h = f refl
@@ -205,98 +185,13 @@ none_clipped first second l e g = count_nowhere _ (length first) nowhere
         (λ a. no_end (map scaled (map short second)) g k (omega (arith, length-map second short, length-map (map short second) scaled)) (ap at_end (get_or_scaled (map short second) k ∙ ap scaled (get_or_short second k) ∙ scaled_is (short (at second k)) (abs_short (at second k))) ∙ beyond_end (fifths (short (at second k))) a))
         t
 
--- ---- the definition's run, sample by sample, is this
+-- ---- what comes of a block behind the first section, and behind the second
 module _ (words : List ℤ) where
-  abbrev T : Taps
-  T = taps_of words
-
-  -- what comes of a block behind the first section, and behind the second
   abbrev pub firsts : OutputFilter → List ℤ → List ℤ
-  firsts f xs = through T (lines_of f 0) xs
+  firsts f xs = through (taps_of words) (lines_of f 0) xs
 
   abbrev pub seconds : OutputFilter → List ℤ → List ℤ
-  seconds f xs = through T (lines_of f 3) (map short (firsts f xs))
-
-  abbrev next : OutputFilter → ℤ → OutputFilter
-  next f x = (filter_sample T f x).filter
-
-  abbrev first : OutputFilter → ℤ → ℤ
-  first f x = (filter_section T f 0 x).value
-
-  value_is : (f : OutputFilter) (s : ℕ) (x : ℤ) → (filter_section T f s x).value ≡ short (wide (section_sum T f s x))
-  unfolding filter_section wide
-  value_is f s x = rounded_sum_lem (section_sum T f s x) (pos 2) ∙ hi_short (rounded_sum (section_sum T f s x) (pos 2))
-
-  -- a sample more
-  firsts_cons : (f : OutputFilter) (x : ℤ) (xs : List ℤ) → firsts f (x ∷ xs) ≡ wide (section_sum T f 0 x) ∷ firsts (next f x) xs
-  unfolding through line_sum lines_of moved section_sum inputs total filter_sample filter_section Postfilter.moved
-  firsts_cons f x xs = refl
-
-  after_first : (f : OutputFilter) (x : ℤ) (xs : List ℤ) → left T (lines_of f 0) (x ∷ xs) ≡ left T (lines_of (next f x) 0) xs
-  unfolding left line_sum lines_of moved section_sum inputs total filter_sample filter_section Postfilter.moved
-  after_first f x xs = refl
-
-  second_cons : (f : OutputFilter) (x : ℤ) (ys : List ℤ) → through T (lines_of f 3) (first f x ∷ ys) ≡ wide (section_sum T f 3 (first f x)) ∷ through T (lines_of (next f x) 3) ys
-  unfolding through line_sum lines_of moved section_sum inputs total filter_sample filter_section Postfilter.moved
-  second_cons f x ys = refl
-
-  second_left : (f : OutputFilter) (x : ℤ) (ys : List ℤ) → left T (lines_of f 3) (first f x ∷ ys) ≡ left T (lines_of (next f x) 3) ys
-  unfolding left line_sum lines_of moved section_sum inputs total filter_sample filter_section Postfilter.moved
-  second_left f x ys = refl
-
-  shortened : (f : OutputFilter) (x : ℤ) (xs : List ℤ) → map short (firsts f (x ∷ xs)) ≡ first f x ∷ map short (firsts (next f x) xs)
-  shortened f x xs = ap (map short) (firsts_cons f x xs) ∙ ap (λ (v : ℤ). v ∷ map short (firsts (next f x) xs)) (sym (value_is f 0 x))
-
-  seconds_cons : (f : OutputFilter) (x : ℤ) (xs : List ℤ) → seconds f (x ∷ xs) ≡ wide (section_sum T f 3 (first f x)) ∷ seconds (next f x) xs
-  seconds_cons f x xs = ap (through T (lines_of f 3)) (shortened f x xs) ∙ second_cons f x (map short (firsts (next f x) xs))
-
-  -- the outputs
-  pub outputs_by : (f : OutputFilter) (xs : List ℤ) → outputs words f xs ≡ map scaled (map short (seconds f xs))
-  unfolding outputs through filter_sample
-  outputs_by f [] = refl
-  outputs_by f (x ∷ xs) = (λ i. scaled (value_is f 3 (first f x) i) ∷ outputs_by (next f x) xs i) ∙ sym (ap (λ (l : List ℤ). map scaled (map short l)) (seconds_cons f x xs))
-
-  -- the filter after them
-  six : (l : List ℤ) → length l ≡ 6 → l ≡ at l 0 ∷ at l 1 ∷ at l 2 ∷ at l 3 ∷ at l 4 ∷ at l 5 ∷ []
-  six [] h = absurd (omega arith)
-  six (a ∷ []) h = absurd (omega arith)
-  six (a ∷ b ∷ []) h = absurd (omega arith)
-  six (a ∷ b ∷ c ∷ []) h = absurd (omega arith)
-  six (a ∷ b ∷ c ∷ d ∷ []) h = absurd (omega arith)
-  six (a ∷ b ∷ c ∷ d ∷ e ∷ []) h = absurd (omega arith)
-  six (a ∷ b ∷ c ∷ d ∷ e ∷ f ∷ []) h = refl
-  six (a ∷ b ∷ c ∷ d ∷ e ∷ f ∷ g ∷ l) h = absurd (omega arith)
-
-  sized : (f : OutputFilter) (x : ℤ) → (length (next f x).fir ≡ 6) × (length (next f x).iir ≡ 6)
-  unfolding filter_sample Postfilter.moved
-  sized f x = (refl, refl)
-
-  pub after_by : (f : OutputFilter) (xs : List ℤ) → length f.fir ≡ 6 → length f.iir ≡ 6 → after words f xs ≡ both (left T (lines_of f 0) xs) (left T (lines_of f 3) (map short (firsts f xs)))
-  unfolding after left through both lines_of
-  after_by f [] h k = λ i. record { fir = six f.fir h i; iir = six f.iir k i }
-  after_by f (x ∷ xs) h k =
-      after_by (next f x) xs (sized f x).0 (sized f x).1
-      ∙ (λ i. both (sym (after_first f x xs) i) (sym (ap (left T (lines_of f 3)) (shortened f x xs) ∙ second_left f x (map short (firsts (next f x) xs))) i))
-
-  -- ---- the second section's saturation need not be looked at: what it changed is at an end, which the scaling changes too
-  sample_clips_lem : (f : OutputFilter) (x : ℤ) → sample_clips T f x ≡ clips_at (wide (section_sum T f 0 x)) (wide (section_sum T f 3 (first f x)))
-  unfolding sample_clips clips_at wide
-  sample_clips_lem f x =
-      let b : ℤ = wide (section_sum T f 3 (first f x)) in
-      (λ i. clips_wide (rounded_sum (section_sum T f 0 x) (pos 2)) i || clips_wide (rounded_sum (section_sum T f 3 (first f x)) (pos 2)) i || (ap (λ (v : ℤ). clips (rounded_sum (acc (mul v (pos 19661))) (pos 1))) (value_is f 3 (first f x)) ∙ scaling_clips (short b) (abs_short b)) i)
-      ∙ implied (beyond (wide (section_sum T f 0 x))) (beyond b) (beyond (fifths (short b))) (shown b)
-
-  clips_by : (f : OutputFilter) (xs : List ℤ) (n : ℕ) → n < length xs → sample_clips T (after words f (take n xs)) (at xs n) ≡ clips_at (at (firsts f xs) n) (at (seconds f xs) n)
-  unfolding after
-  clips_by f [] n h = absurd (omega arith)
-  clips_by f (x ∷ xs) zero h = sample_clips_lem f x ∙ sym (λ i. clips_at (at (firsts_cons f x xs i) 0) (at (seconds_cons f x xs i) 0))
-  clips_by f (x ∷ xs) (suc n) h = clips_by (next f x) xs n (omega arith) ∙ sym (λ i. clips_at (at (firsts_cons f x xs i) (suc n)) (at (seconds_cons f x xs i) (suc n)))
-
-  pub clipped_by_lem : (f : OutputFilter) (xs : List ℤ) → clipped words f xs ≡ clipped_by (firsts f xs) (seconds f xs)
-  unfolding clipped clipped_by
-  clipped_by_lem f xs =
-      count_same _ _ (length xs) (clips_by f xs)
-      ∙ ap (count (λ n. clips_at (at (firsts f xs) n) (at (seconds f xs) n))) (sym (length_through T (lines_of f 0) xs))
+  seconds f xs = through (taps_of words) (lines_of f 3) (map short (firsts f xs))
 
 -- ---- a loop through a section, at place n
 module _ (taps : Taps) where

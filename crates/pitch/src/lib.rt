@@ -1,9 +1,11 @@
 // Lags in thirds of a sample, as codes give them, with the phase and the delay of each; in specs also what the adaptive codebook and sharpening are.
+#![tactic(auto)]
+
 ghost use Rattle.std.specs.Prelude.{◌≡◌, ◌≤◌, ◌<◌, pos};
 ghost use Rattle.pitch.specs.Pitch as Pitch;
 
 // A lag's whole samples, and the thirds of a sample that are left, -1, 0 or 1.
-#[derive(Drop)]
+#[derive(Clone, Copy)]
 pub struct Lag {
     pub integer: i16,
     pub frac: i16,

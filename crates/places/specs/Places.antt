@@ -9,8 +9,8 @@ use borrow.Author.Tests.{eq-eqb, ne_eqb, ltb-true, ltb-false, lt-ltb, le-ltb}
 use Rattle.std.proofs.Math.Seq.{drop-nil}
 use Rattle.stream.specs.Lines.{pieces, of_pieces, lines}
 use Rattle.stream.specs.Held.{push_text_lem, push_count_lem}
-use Rattle.hex.specs.Text.{is_only}
-use Rattle.hex.specs.Held.{kept, push}
+use Rattle.hex_lines.specs.Text.{is_only}
+use Rattle.hex_lines.specs.Held.{kept, push}
 use Rattle.heard.specs.Recording.{is_start}
 use Rattle.places.specs.Frames.{frames_of, frames}
 

@@ -1,10 +1,12 @@
 // Where a frame's line stands in a recording that is lent whole, and a line as it is held.
+#![tactic(auto)]
+
 ghost use Rattle.std.specs.Prelude.{◌≡◌, ◌+◌, ◌≤◌, min, ltb, length, drop};
-ghost use Rattle.hex.specs.Held as Held;
+ghost use Rattle.hex_lines.specs.Held as Held;
 ghost use Rattle.places.specs.Frames as Frames;
 ghost use Rattle.places.specs.Places as Places;
 
-use hex::Line;
+use hex_lines::Line;
 
 // Where the line that begins at place a ends: at its newline, or at the end of the recording.
 pub fn line_end(recording: &[u8], a: usize) -> usize
@@ -71,10 +73,10 @@ pub fn has_frame(recording: &[u8], k: u32) -> bool
 pub fn held(line: &[u8]) -> Line
     ensures { result ≡ Held.kept line.now }
 {
-    let mut l = hex::empty();
+    let mut l = hex_lines::empty();
     let mut i = 0;
     while i < line.len() {
-        l = hex::push(l, line[i]);
+        l = hex_lines::push(l, line[i]);
         i += 1;
     }
     l

@@ -15,8 +15,8 @@ use Rattle.stream.specs.Machine.{fed_all}
 use Rattle.stream.specs.Room.{over, over_none}
 use Rattle.stream.specs.Decimal.{figure}
 use Rattle.state.specs.declared.State.{State}
-use Rattle.hex.specs.declared.Line.{Line}
-use Rattle.hex.specs.Held.{kept, push, held_line}
+use Rattle.hex_lines.specs.declared.Line.{Line}
+use Rattle.hex_lines.specs.Held.{kept, push, held_line}
 use Rattle.heard.specs.declared.Said.{Said}
 use Rattle.heard.specs.Recording.{event, text, line_step, line_text}
 use Rattle.heard.specs.Start.{called}
@@ -24,7 +24,7 @@ use Rattle.slots.specs.declared.Slot.{Slot}
 use Rattle.slot_users.specs.Users.{SLOTS}
 use Rattle.shelf.specs.Shelf.{number, slots_after}
 use Rattle.shelf.specs.Shelf as Calls
-use Rattle.shelf.specs.Run.{Shelf, after, hold, let_go}
+use Rattle.shelf.specs.Run.{Shelf, after}
 use Rattle.places.specs.Frames.{frames}
 use Rattle.places.specs.Places.{line_end, line_at_lem, lines_at, behind_is}
 use Rattle.forward.specs.Forward.{before}

@@ -15,8 +15,8 @@ use Rattle.stream.specs.Held.{count, shown, zeros, start_take}
 use Rattle.stream.specs.Machine.{fed_all}
 use Rattle.stream.specs.Reads.{Read, bytes, input_of}
 use Rattle.stream.specs.Told.{texts}
-use Rattle.hex.specs.declared.Line.{Line}
-use Rattle.hex.specs.Held.{kept, push, held_line}
+use Rattle.hex_lines.specs.declared.Line.{Line}
+use Rattle.hex_lines.specs.Held.{kept, push, held_line}
 use Rattle.table_file.specs.File as File
 use Rattle.state.specs.declared.State.{State}
 use Rattle.heard.specs.Recording.{line_step, line_text, tables_text}

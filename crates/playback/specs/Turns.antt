@@ -3,8 +3,8 @@ use Rattle.std.specs.Prelude.{ℕ, ◌+◌, ◌-◌, ◌≤◌, ◌≡◌, List,
 use borrow.Author.Tests.{eq-eqb, ne_eqb}
 use Rattle.stream.specs.Machine.{fed_all}
 use Rattle.stream.specs.Room.{over}
-use Rattle.hex.specs.declared.Line.{Line}
-use Rattle.hex.specs.Held.{kept, push, held_line}
+use Rattle.hex_lines.specs.declared.Line.{Line}
+use Rattle.hex_lines.specs.Held.{kept, push, held_line}
 use Rattle.table_file.specs.File as File
 use Rattle.heard.specs.Recording.{line_step, line_text}
 use Rattle.slots.specs.Slots.{no_slot}

@@ -5,7 +5,7 @@ use Rattle.stream.specs.Lines.{pieces, of_pieces, lines}
 use Rattle.stream.specs.Told.{texts}
 use Rattle.stream.specs.Decimal.{decimal_in, decimal, figure}
 use Rattle.table_file.specs.File as File
-use Rattle.hex.specs.Text.{digit, tables_refused_text}
+use Rattle.hex_lines.specs.Text.{digit, tables_refused_text}
 use Rattle.state.specs.State.{fault}
 use Rattle.heard.specs.Recording.{tables_text}
 use Rattle.slot_users.specs.Users as Users

@@ -1,9 +1,11 @@
 // Playing a recording by commands, turn by turn: each turn writes one frame's line, or takes in one command's line and writes what it is answered.
+#![tactic(auto)]
+
 ghost use Rattle.std.specs.Prelude.{◌≡◌, ◌≤◌, ◌<◌, ltb, length};
 ghost use Rattle.io.specs.Counts.{IsPrefixLen};
 ghost use Rattle.stream.specs.Machine.{fed_all};
 ghost use Rattle.table_file.specs.File as File;
-ghost use Rattle.hex.specs.Held as Held;
+ghost use Rattle.hex_lines.specs.Held as Held;
 ghost use Rattle.heard.specs.Start as Start;
 ghost use Rattle.replies.specs.Replies as Replies;
 ghost use Rattle.replies.specs.Promised as Promised;
@@ -11,14 +13,14 @@ ghost use Rattle.playback.specs.Playback as Playback;
 ghost use Rattle.playback.specs.Turns as Turns;
 
 use commands::Command;
-use hex::Line;
+use hex_lines::Line;
 use replies::{Cue, Obeyed};
 use seek::Sought;
 use slot_users::SLOTS;
 use slots::{Records, Slot};
 
 // Where the player stands: the records of the shelf, the line that is coming in, what is left to play, and whether all is told.
-#[derive(Drop)]
+#[derive(Clone, Copy)]
 pub struct Player {
     pub slots: [Slot; 16],
     pub line: Line,
@@ -27,7 +29,7 @@ pub struct Player {
 }
 
 // What a turn leaves, how many bytes of its chunk it used, and how long its text is.
-#[derive(Drop)]
+#[derive(Clone, Copy)]
 pub struct Turned {
     pub player: Player,
     pub used: usize,
@@ -35,7 +37,7 @@ pub struct Turned {
 }
 
 // What a frame leaves, and how long its text is.
-#[derive(Drop)]
+#[derive(Clone, Copy)]
 struct Played {
     cue: Cue,
     n: usize,
@@ -48,7 +50,7 @@ pub fn start() -> Player
     let none = Slot { users: 0, frame: 0 };
     Player {
         slots: [none; 16],
-        line: hex::empty(),
+        line: hex_lines::empty(),
         cue: replies::silence(),
         told: false,
     }
@@ -195,7 +197,7 @@ fn end_line(
     Turned {
         player: Player {
             slots: after,
-            line: hex::empty(),
+            line: hex_lines::empty(),
             cue: next,
             told: false,
         },
@@ -211,7 +213,7 @@ fn push_all(line: Line, part: &[u8]) -> Line
     let mut l = line;
     let mut i = 0;
     while i < part.len() {
-        l = hex::push(l, part[i]);
+        l = hex_lines::push(l, part[i]);
         i += 1;
     }
     l

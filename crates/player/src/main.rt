@@ -1,10 +1,11 @@
 // The player: a recording is entered at any frame. Commands come in on standard input, a line each: read, playback's call, write.
+#![tactic(auto)]
+
 ghost use Rattle.std.specs.Prelude.{◌≡◌, ◌≤◌, length};
 ghost use Rattle.io.specs.Counts.{IsPrefixLen};
 ghost use Rattle.heard.specs.Start as Start;
 ghost use Rattle.playback.specs.Turns as Turns;
 
-use libc::STDERR_FILENO;
 use pipe::Moved;
 use playback::Player;
 
@@ -21,7 +22,7 @@ struct Stand {
 }
 
 // The next bytes, where input is wanted, none is left and it is not at its end.
-fn refill(stand: Stand, recording: &[u8], chunk: &mut [u8]) -> Stand
+fn refill(rt: &HostRuntime, stand: Stand, recording: &[u8], chunk: &mut [u8]) -> Stand
     requires { (length chunk.old ≡ 4096) × ((stand.at ≤ stand.to) × (stand.to ≤ 4096)) }
     ensures { (result.at ≤ result.to) × (result.to ≤ 4096) }
 {
@@ -36,9 +37,9 @@ fn refill(stand: Stand, recording: &[u8], chunk: &mut [u8]) -> Stand
     if stand.over {
         return stand;
     }
-    let got = pipe::read(chunk);
+    let got = pipe::read(rt, chunk);
     if got.failed {
-        os::fail(b"player: cannot read");
+        pipe::tell(rt, b"player: cannot read", got.why);
     }
     Stand {
         player,
@@ -52,6 +53,7 @@ fn refill(stand: Stand, recording: &[u8], chunk: &mut [u8]) -> Stand
 
 // A turn, and its text.
 fn take_turn(
+    rt: &HostRuntime,
     words: &[i16],
     file: &[u8],
     stand: Stand,
@@ -80,9 +82,9 @@ fn take_turn(
     );
     let next = t.player;
     let n = t.n;
-    let put = pipe::write(&room[..n]);
+    let put = pipe::write(rt, &room[..n]);
     if put.failed {
-        os::fail(b"player: cannot write");
+        pipe::tell(rt, b"player: cannot write", put.why);
     }
     Stand {
         player: next,
@@ -94,16 +96,13 @@ fn take_turn(
     }
 }
 
-fn stopped() {
-    io::write_all(
-        STDERR_FILENO,
-        b"player: stopped after 18446744073709551615 turns\n",
-    );
+fn stopped(rt: &HostRuntime) {
+    pipe::write_error(rt, b"player: stopped after 18446744073709551615 turns\n");
 }
 
 // Each turn plays a frame, uses a byte or more, or is at the end. A proved loop has to end and nothing says that an input does, so the turns are
 // counted, as in console.
-fn play(words: &[i16], file: &[u8], recording: &[u8])
+fn play(rt: &HostRuntime, words: &[i16], file: &[u8], recording: &[u8])
     requires { Start.Tables words.now file.now }
 {
     let mut images = [0u8; 8416];
@@ -118,11 +117,11 @@ fn play(words: &[i16], file: &[u8], recording: &[u8])
     };
     let mut turns = u64::MAX;
     while turns > 0 {
-        stand = refill(stand, recording, &mut chunk);
+        stand = refill(rt, stand, recording, &mut chunk);
         if stand.failed {
             return;
         }
-        stand = take_turn(words, file, stand, &mut images, recording, &chunk);
+        stand = take_turn(rt, words, file, stand, &mut images, recording, &chunk);
         if stand.failed {
             return;
         }
@@ -131,70 +130,66 @@ fn play(words: &[i16], file: &[u8], recording: &[u8])
         }
         turns -= 1;
     }
-    stopped();
+    stopped(rt);
 }
 
 // A byte more than a table file has tells one that is too long.
-fn open(recording: &[u8]) {
+fn open(rt: &HostRuntime, recording: &[u8]) {
     let mut file = [0u8; 15835];
     let mut words = [0i16; 5963];
     let mut room = [0u8; 40];
-    let got = pipe::read_file(b"tables.bin", &mut file);
+    let got = pipe::read_file(rt, b"tables.bin", &mut file);
     if got.failed {
-        os::fail(b"player: cannot read tables.bin");
+        pipe::tell(rt, b"player: cannot read tables.bin", got.why);
         return;
     }
     let n = got.n;
     let start = heard::begin(&file[..n], &mut words, &mut room);
     let k = start.n;
-    let put = pipe::write(&room[..k]);
+    let put = pipe::write(rt, &room[..k]);
     if put.failed {
-        os::fail(b"player: cannot write");
+        pipe::tell(rt, b"player: cannot write", put.why);
         return;
     }
     if start.number == 0 {
-        play(&words, &file[..n], recording);
+        play(rt, &words, &file[..n], recording);
     }
 }
 
 // The recording's bytes into an array that stands elsewhere: where it is made its four million zeros are known, and would be counted one by one.
-fn fill(name: &[u8], room: &mut [u8; 4194305]) -> Moved
+fn fill(rt: &HostRuntime, name: &[u8], room: &mut [u8; 4194305]) -> Moved
     ensures { IsPrefixLen result.n room.new }
 {
-    pipe::read_file(name, room)
+    pipe::read_file(rt, name, room)
 }
 
 // The recording whose name is the argument. A byte more than its room has tells one that is too long.
-fn read(name: &[u8]) {
-    let fd = os::open_read(name);
-    if fd < 0 {
-        os::fail(name);
+fn read(rt: &HostRuntime, name: &[u8]) {
+    if let Err(why) = pipe::open(rt, name) {
+        pipe::tell(rt, name, why);
         return;
     }
-    libc::close(fd);
     let mut room = [0u8; 4194305];
-    let got = fill(name, &mut room);
+    let got = fill(rt, name, &mut room);
     if got.failed {
-        os::fail(name);
+        pipe::tell(rt, name, got.why);
         return;
     }
     let n = got.n;
     if n > 4194304 {
-        io::write_all(
-            STDERR_FILENO,
-            b"player: the recording is longer than 4194304 bytes\n",
-        );
+        pipe::write_error(rt, b"player: the recording is longer than 4194304 bytes\n");
         return;
     }
-    open(&room[..n]);
+    open(rt, &room[..n]);
 }
 
-fn main() {
+fn main(rt: HostRuntime) {
     let mut name = io::buffer();
-    let n = os::arg(1, &mut name);
-    if os::errno() != 0 {
-        os::fail(b"player: the recording's name");
+    let got = pipe::argument(&rt, 1, &mut name);
+    if got.failed {
+        pipe::tell(&rt, b"player: the recording's name", got.why);
         return;
     }
-    read(&name[..n]);
+    let n = got.n;
+    read(&rt, &name[..n]);
 }

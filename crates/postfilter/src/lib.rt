@@ -1,4 +1,6 @@
 // Two cascaded output reconstruction sections.
+#![tactic(auto)]
+
 ghost use Rattle.std.specs.Prelude.{◌≡◌, ◌≤◌, length};
 ghost use Rattle.tables.specs.Places.{WORDS};
 ghost use Rattle.output_filter.specs.Postfilter as Postfilter;

@@ -1,4 +1,6 @@
 // Runs of products in the accumulator: for small taps the plain sum in 32 bits, eight at a time.
+#![tactic(auto)]
+
 ghost use Rattle.std.specs.Prelude.{true, ◌≡◌, ℕ, ◌≤◌, ◌<◌, pos, nat_abs, length, get_or};
 ghost use Rattle.sequence.specs.Total.{total};
 ghost use Rattle.fixed.specs.Fixed as Fixed;

@@ -1,9 +1,11 @@
 // A question is a line of numbers in decimal, as the replaying programs read it.
+#![tactic(auto)]
+
 ghost use Rattle.std.specs.Prelude.{◌≡◌, ◌<◌, ◌≤◌, length};
 ghost use Rattle.questions.specs.Questions as Questions;
 
 // The numbers of a line, 128 at most, and where the next line begins.
-#[derive(Drop)]
+#[derive(Clone, Copy)]
 pub struct Question {
     pub count: usize,
     pub numbers: [i64; 128],
@@ -11,7 +13,7 @@ pub struct Question {
 }
 
 // A line that is being read: the numbers that are complete, and the digits of the next.
-#[derive(Drop)]
+#[derive(Clone, Copy)]
 pub struct Reading {
     pub count: usize,
     pub numbers: [i64; 128],

@@ -1,4 +1,6 @@
 // A frame as the line of 162 digits that one receiver dumps, and back: post_fec.rs's `receiver_bits`, and the four frame bits that it drops.
+#![tactic(auto)]
+
 ghost use Rattle.std.specs.Prelude.{◌≡◌, true, ◌+◌, length, get_or};
 ghost use Rattle.sequence.specs.All.{all};
 ghost use Rattle.sequence.specs.Table.{table};

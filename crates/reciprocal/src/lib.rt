@@ -1,4 +1,6 @@
 // The reciprocal, by a division that takes the divisor away where it can.
+#![tactic(auto)]
+
 ghost use Rattle.std.specs.Prelude.{◌≡◌, ◌*◌, ◌≤◌, pos, nat_abs};
 ghost use Rattle.fixed.specs.Wrap.{REACH};
 ghost use Rattle.fixed.specs.Fixed as Fixed;

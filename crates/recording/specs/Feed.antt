@@ -1,28 +1,27 @@
 -- The recorder takes its input a byte at a time and writes a text at each line's end. What its calls promise, joined, is the program's text.
-use Prim.Native.Nat.{ℕ, zero, suc, ◌+◌, ◌*◌, ◌<◌, ◌≤◌, min}
+use Prim.Native.Nat.{ℕ, suc, ◌+◌, ◌*◌, ◌<◌, ◌≤◌, min}
 use Rattle.std.specs.Prelude.{◌≡◌, Bool, ◌&&◌, cond, eqb, ℤ, length}
 use Rattle.std.proofs.Math.Path.{refl, ap}
-use Rattle.std.proofs.Common.{◌∙◌, arith}
+use Rattle.std.proofs.Common.{arith}
 use mathlib.Core.List.{List, [], ◌∷◌, ◌++◌, append-nil}
 use Rattle.std.proofs.Math.Bool.{true, false}
 use borrow.Author.Tests.{eq-eqb, ne_eqb}
-use Rattle.stream.specs.Lines.{lines}
 use Rattle.stream.specs.Held.{zeros, push_text_lem, push_count_lem, push_one, shown_same}
 use Rattle.stream.specs.Machine.{fed_all, written_all, Streamed, streamed_most}
 use Rattle.stream.specs.Reads.{Read, input_of, answers, Took}
 use Rattle.stream.specs.Reads as Reads
-use Rattle.stream.specs.Told.{texts, told, last, Machine, reads_told}
+use Rattle.stream.specs.Told.{texts, last, Machine}
 use Rattle.state.specs.declared.State.{State}
 use Rattle.state.specs.State.{reset, cold_start}
-use Rattle.hex.specs.declared.Line.{Line}
-use Rattle.hex.specs.Held.{kept, push, held_line}
+use Rattle.hex_lines.specs.declared.Line.{Line}
+use Rattle.hex_lines.specs.Held.{kept, push, held_line}
 use Rattle.heard.specs.declared.Recorder.{Recorder}
 use Rattle.heard.specs.declared.Said.{Said}
 use Rattle.recording.specs.declared.Fed.{Fed}
-use Rattle.hex.specs.Text.{is_frame, is_only}
+use Rattle.hex_lines.specs.Text.{is_frame, is_only}
 use Rattle.table_file.specs.File as File
-use Rattle.heard.specs.Recording.{event, line_step, line_text, is_start, opening, transcript_of, transcript, tables_text, output, program}
-use Rattle.heard.specs.Start.{begin, start_text_by, start_text, started_by, started}
+use Rattle.heard.specs.Recording.{event, line_step, line_text, is_start, opening, transcript_of}
+use Rattle.heard.specs.Start.{start_text, started}
 
 -- ---- where a recording stands
 -- between two lines: whether its first is still to come, and the state
@@ -71,13 +70,13 @@ module _ (words : List ℤ) (bytes : List ℕ) where
   fed_chunk r chunk = record { recorder = fed_all fed r chunk; n = length (written_all fed written r chunk) }
 
   -- ---- it is the machine of the lines
-  at : Place → List ℕ → Recorder
+  unfoldable pub at : Place → List ℕ → Recorder
   at p line = standing p.first p.state (kept line)
 
-  place_step : Place → List ℕ → Place
+  pub place_step : Place → List ℕ → Place
   place_step p line = record { first = false; state = end_step p.first p.state line }
 
-  place_text : Place → List ℕ → List ℕ
+  pub place_text : Place → List ℕ → List ℕ
   place_text p line = end_text p.first p.state line
 
   module _ (p : Place) (line : List ℕ) where
@@ -98,7 +97,7 @@ module _ (words : List ℤ) (bytes : List ℕ) where
     text_held = shown_same 40 line (place_text p) text_long
 
   -- nothing more is written at the end
-  nothing : Place → List ℕ
+  unfoldable pub nothing : Place → List ℕ
   nothing p = []
 
   ends : (p : Place) (line : List ℕ) → ending (at p line) ≡ last place_step place_text nothing p line
@@ -106,7 +105,7 @@ module _ (words : List ℤ) (bytes : List ℕ) where
   ends p [] = refl
   ends p (b ∷ bs) = rw (ne_eqb (min (suc (length bs)) 41) 0 (λ e. omega arith), append-nil) (text_held p (b ∷ bs))
 
-  machine : Machine place_step place_text (last place_step place_text nothing) fed written ending at
+  pub machine : Machine place_step place_text (last place_step place_text nothing) fed written ending at
   unfolding at fed written place_step place_text push kept
   machine = record {
     newline = λ p line. ap (λ (q : Place). standing false q.state (kept [])) (step_held p line);
@@ -122,7 +121,7 @@ module _ (words : List ℤ) (bytes : List ℕ) where
   going s [] = refl
   going s (l ∷ ls) = ap (λ (t : List ℕ). line_text words bytes s l ++ t) (going (line_step words bytes s l) ls)
 
-  begun : (ls : List (List ℕ)) → texts place_step place_text (record { first = true; state = (cold_start words bytes).state }) ls ≡ transcript_of words bytes (opening words bytes ls)
+  pub begun : (ls : List (List ℕ)) → texts place_step place_text (record { first = true; state = (cold_start words bytes).state }) ls ≡ transcript_of words bytes (opening words bytes ls)
   unfolding texts place_step place_text end_step end_text opening transcript_of
   begun [] = refl
   begun (l ∷ ls) = by (is_start l) refl
@@ -130,14 +129,6 @@ module _ (words : List ℤ) (bytes : List ℕ) where
       by : (start : Bool) → is_start l ≡ start → texts place_step place_text (record { first = true; state = (cold_start words bytes).state }) (l ∷ ls) ≡ transcript_of words bytes (opening words bytes (l ∷ ls))
       by true e = rw e (going (reset words bytes).state ls)
       by false e = rw e (ap (λ (t : List ℕ). line_text words bytes (cold_start words bytes).state l ++ t) (going (line_step words bytes (cold_start words bytes).state l) ls))
-
-  -- however its input is cut into reads, their texts, joined, are the transcript of all that was read
-  pub transcript_told : (reads : List Read) → answers fed written ending (begin words bytes) reads ≡ transcript words bytes (input_of reads)
-  unfolding begin at transcript told nothing
-  transcript_told reads =
-      reads_told place_step place_text nothing fed written ending at machine (record { first = true; state = (cold_start words bytes).state }) reads
-      ∙ append-nil _
-      ∙ begun (lines (input_of reads))
 
   -- ---- the loop over a chunk, in a room that is large enough
   -- a line's text has room behind what is there
@@ -189,12 +180,3 @@ module _ (file : List ℕ) where
   -- THE PROGRAM, as its calls promise it: the start's text and, where that is no refusal, those of any reads and of one that gives nothing
   unfoldable pub spoken : List Read → List ℕ
   spoken reads = start_text file ++ cond (eqb (started file).number 0) (answers fed_by written_by ending_by (started file).recorder reads) []
-
-  spoken_by : (n : ℕ) (reads : List Read) → start_text_by n file ++ cond (eqb (started_by n file).number 0) (answers fed_by written_by ending_by (started_by n file).recorder reads) [] ≡ output n file (input_of reads)
-  unfolding start_text_by started_by output
-  spoken_by zero reads = transcript_told (File.words file) (File.bytes file) reads
-  spoken_by (suc n) reads = rw (ne_eqb (suc n) 0 (λ e. omega arith)) (append-nil (tables_text (suc n) file))
-
-  pub program_told : (reads : List Read) → spoken reads ≡ program file (input_of reads)
-  unfolding spoken start_text started program
-  program_told reads = spoken_by (File.check_file file) reads

@@ -12,13 +12,13 @@ use Rattle.std.proofs.Math.ListN.{get_or}
 use borrow.Author.Tests.{ne_eqb}
 use Rattle.stream.specs.Told as Told
 use Rattle.state.specs.declared.State.{State}
-use Rattle.calls.specs.Celp.{refusal, decode, answer, accepted, refused, samples}
+use Rattle.calls.specs.Celp.{refusal, decode, answer, accepted, refused}
 use Rattle.calls.specs.Mark.{mark_missed, mark_refused}
 use Rattle.calls.specs.Receiver.{after_all, Call, START, Joins, at_first, Follows, begun, between, without}
 use Rattle.calls.specs.Receiver as Receiver
-use Rattle.calls.specs.Relied.{receiver_may_rely, cold_joins}
+use Rattle.calls.proofs.Relied.{receiver_may_rely, cold_joins}
 use Rattle.calls.specs.Run.{Event, heard, missed, step, run}
-use Rattle.hex.specs.Text.{digit, is_frame, payload, frame_text, refused_text}
+use Rattle.hex_lines.specs.Text.{digit, is_frame, payload, frame_text, refused_text}
 use Rattle.heard.specs.Recording.{event, answer_text, text, line_step, line_text, is_start, opening}
 
 -- the recording has no first `+`

@@ -1,18 +1,20 @@
 // A recording as text: frames come in as lines of hexadecimal, samples go out as lines of hexadecimal.
+#![tactic(auto)]
+
 ghost use Rattle.std.specs.Prelude.{◌≡◌, ◌+◌, ◌*◌, ◌≤◌, min, length};
 ghost use Rattle.io.specs.Counts.{IsPrefixLen};
 ghost use Rattle.stream.specs.Room.{over};
 ghost use Rattle.stream.specs.Machine.{written_all};
-ghost use Rattle.hex.specs.Held as Held;
+ghost use Rattle.hex_lines.specs.Held as Held;
 ghost use Rattle.heard.specs.Start as Start;
 ghost use Rattle.recording.specs.Feed as Feed;
 
 use heard::{Recorder, Said};
-use hex::Line;
+use hex_lines::Line;
 use state::State;
 
 // What a chunk of the input leaves, and how long its text is.
-#[derive(Drop)]
+#[derive(Clone, Copy)]
 pub struct Fed {
     pub recorder: Recorder,
     pub n: usize,
@@ -62,9 +64,9 @@ fn feed(words: &[i16], bytes: &[u8], recorder: Recorder, chunk: &[u8], room: &mu
             n += said.n;
             first = false;
             state = said.state;
-            line = hex::empty();
+            line = hex_lines::empty();
         } else {
-            line = hex::push(line, b);
+            line = hex_lines::push(line, b);
         }
     }
     Fed {

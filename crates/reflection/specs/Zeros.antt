@@ -47,13 +47,16 @@ module _ (k₀ : List ℤ) where
   zeros_le (suc n) = omega (arith, more n, zeros_le n, one_or_none (at (repeated (λ k. step (9 - k)) n k₀) (9 - n)))
 
 module _ (lpc : List ℤ) where
-  all_steps : zeros_of (tail lpc) 9 ≡ zero_residuals_of lpc
-  unfolding zeros_of zero_residuals_of
-  all_steps = refl
-
   -- where the loop ends
   pub zeros_end : {n m : ℕ} {k : List ℤ} → n ≤ 9 → 9 ≤ n → k ≡ tail lpc → m ≡ zeros_of k n → m ≡ zero_residuals_of lpc
-  zeros_end {n} {m} {k} p q t e = let h : n ≡ 9 = omega arith in e ∙ (λ i. zeros_of (t i) (h i)) ∙ all_steps
+  unfolding zeros_of zero_residuals_of
+  zeros_end {n} {m} {k} p q t e =
+      let h : n ≡ 9 = omega arith in
+      let all : zeros_of (tail lpc) 9 ≡ zero_residuals_of lpc = refl in
+      e ∙ (λ i. zeros_of (t i) (h i)) ∙ all
 
   pub at_most_nine : zero_residuals_of lpc ≤ 9
-  at_most_nine = omega (arith, all_steps, zeros_le (tail lpc) 9)
+  unfolding zeros_of zero_residuals_of
+  at_most_nine =
+      let all : zeros_of (tail lpc) 9 ≡ zero_residuals_of lpc = refl in
+      omega (arith, all, zeros_le (tail lpc) 9)

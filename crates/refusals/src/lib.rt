@@ -1,4 +1,6 @@
 // What a frame is refused with, before it is decoded: the refusals in their order.
+#![tactic(auto)]
+
 ghost use Rattle.std.specs.Prelude.{◌≡◌, length};
 ghost use Rattle.tables.specs.SoundWords.{SoundWords};
 ghost use Rattle.bits.specs.Bits as Bits;

@@ -10,7 +10,7 @@ use borrow.Author.Tests.{eq-eqb, ne_eqb, ltb-false}
 use Rattle.stream.specs.Held.{shown, zeros, push_text, push_count}
 use Rattle.stream.specs.Machine.{Streamed, streamed_most}
 use Rattle.stream.specs.Decimal.{decimal, decimal_long}
-use Rattle.hex.specs.Text.{is_only}
+use Rattle.hex_lines.specs.Text.{is_only}
 use Rattle.mending.specs.declared.Place.{Place}
 use Rattle.mending.specs.Repair.{is_return, is_blank, is_capital, bare, lower, cleaned, passes, is_kept, mended, any, return, blank, letter, replaced, said, happened, entry, step, line_entry}
 use Rattle.mending.specs.Repair as Repair

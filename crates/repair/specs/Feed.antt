@@ -10,7 +10,7 @@ use Rattle.stream.specs.Machine.{fed_all, written_all}
 use Rattle.stream.specs.Reads.{Read, input_of, answers}
 use Rattle.stream.specs.Reads as Reads
 use Rattle.stream.specs.Told.{told, last, pieces_told, told_lines, Machine, any_cut}
-use Rattle.hex.specs.Text.{is_frame, is_only}
+use Rattle.hex_lines.specs.Text.{is_frame, is_only}
 use Rattle.mending.specs.declared.Place.{Place}
 use Rattle.repair.specs.declared.Mender.{Mender}
 use Rattle.repair.specs.declared.Fed.{Fed}

@@ -4,7 +4,7 @@ use Rattle.std.proofs.Common.{ap, ◌∙◌, append_assoc, arith, le_of_suc-le-s
 use Rattle.sequence.specs.All.{and_left, and_right}
 use Rattle.stream.specs.Lines.{pieces, of_pieces, lines, plain, line_first, line_last}
 use Rattle.stream.specs.Told.{after, texts, pieces_told}
-use Rattle.hex.specs.Text.{is_only}
+use Rattle.hex_lines.specs.Text.{is_only}
 use Rattle.mending.specs.declared.Place.{Place}
 use Rattle.mending.specs.Repair.{mended, entry, first, step, line_text, last_text, line_entry, repaired, list}
 use Rattle.mending.specs.Laws.{is_sound, mended_sound, kind, kind_plain, sound_same, same_unlisted, unlisted_same, entry_none}

@@ -1,4 +1,6 @@
 // A recording that came back damaged, mended line by line, and the list of what was changed. All of salvage's text.
+#![tactic(auto)]
+
 ghost use Rattle.std.specs.Prelude.{◌≡◌, true, ◌+◌, ◌≤◌, length};
 ghost use Rattle.io.specs.Counts.{IsPrefixLen};
 ghost use Rattle.stream.specs.Room.{over};
@@ -9,14 +11,14 @@ ghost use Rattle.repair.specs.Feed as Feed;
 use mending::{Place, end_line};
 
 // The same with the line that is coming in: how many bytes it has, counted to 4,097. The bytes stand in a lent buffer.
-#[derive(Drop)]
+#[derive(Clone, Copy)]
 pub struct Mender {
     pub place: Place,
     pub n: usize,
 }
 
 // What a chunk of the input leaves, and how long its two texts are.
-#[derive(Drop)]
+#[derive(Clone, Copy)]
 pub struct Fed {
     pub mender: Mender,
     pub repaired: usize,

@@ -23,7 +23,7 @@ use Rattle.state.specs.declared.State.{State}
 use Rattle.state.specs.State.{obeys}
 use Rattle.calls.specs.Celp.{refusal, refused, accepted, answer, decode, samples}
 use Rattle.calls.specs.Run.{heard}
-use Rattle.hex.specs.Text.{digit, is_digit, is_frame, is_only, byte_at, payload, frame_text, refused_text}
+use Rattle.hex_lines.specs.Text.{digit, is_digit, is_frame, is_only, byte_at, payload, frame_text, refused_text}
 use Rattle.heard.specs.Recording.{event, blank, answer_text, text, line_text, is_start, opening}
 use Rattle.mending.specs.Repair.{repaired}
 use Rattle.mending.specs.Bytes.{is_lower, lower_digits}

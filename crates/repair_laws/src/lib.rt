@@ -1,1 +1,2 @@
 // No function: where decode answers 9 in a mended recording.
+#![tactic(auto)]

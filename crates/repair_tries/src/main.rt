@@ -1,10 +1,12 @@
 // Damaged recordings that salvage is tried on. A line of standard input names a file. A heading follows, what salvage writes of it, `|` where that ends, and the list.
+#![tactic(auto)]
+
 ghost use Rattle.std.specs.Prelude.{◌≡◌, ◌≤◌, ◌<◌, length};
 
 use repair::Mender;
 
 // What one chunk gives: its list is written, or its text; an empty one is the end.
-fn part(mender: Mender, held: &mut [u8], chunk: &[u8], listing: bool) -> Mender
+fn part(rt: &HostRuntime, mender: Mender, held: &mut [u8], chunk: &[u8], listing: bool) -> Mender
     requires { (length held.old ≡ 4096) × (length chunk.now ≤ 999) }
 {
     let mut out = [0u8; 2079];
@@ -13,9 +15,9 @@ fn part(mender: Mender, held: &mut [u8], chunk: &[u8], listing: bool) -> Mender
     let n = fed.repaired;
     let m = fed.listed;
     if listing {
-        pipe::write(&list[..m]);
+        pipe::write(rt, &list[..m]);
     } else {
-        pipe::write(&out[..n]);
+        pipe::write(rt, &out[..n]);
     }
     fed.mender
 }
@@ -28,31 +30,31 @@ fn least(a: usize, b: usize) -> usize
 }
 
 // A file in chunks of 999 bytes, so that lines are cut by them.
-fn play(held: &mut [u8], input: &[u8], listing: bool)
+fn play(rt: &HostRuntime, held: &mut [u8], input: &[u8], listing: bool)
     requires { length held.old ≡ 4096 }
 {
     let mut mender = repair::begin();
     let mut at = 0;
     while at < input.len() {
         let to = at + least(999, input.len() - at);
-        mender = part(mender, held, &input[at..to], listing);
+        mender = part(rt, mender, held, &input[at..to], listing);
         at = to;
     }
-    part(mender, held, &input[at..at], listing);
+    part(rt, mender, held, &input[at..at], listing);
 }
 
 // A case: the file's name. A file that is not there is empty.
-fn attempt(name: &[u8]) {
+fn attempt(rt: &HostRuntime, name: &[u8]) {
     let mut input = [0u8; 65536];
     let mut held = io::buffer();
-    let read = pipe::read_file(name, &mut input);
+    let read = pipe::read_file(rt, name, &mut input);
     let m = read.n;
-    pipe::write(b"== ");
-    pipe::write(name);
-    pipe::write(b"\n");
-    play(&mut held, &input[..m], false);
-    pipe::write(b"|\n");
-    play(&mut held, &input[..m], true);
+    pipe::write(rt, b"== ");
+    pipe::write(rt, name);
+    pipe::write(rt, b"\n");
+    play(rt, &mut held, &input[..m], false);
+    pipe::write(rt, b"|\n");
+    play(rt, &mut held, &input[..m], true);
 }
 
 // The first newline from a place on, or the end.
@@ -70,11 +72,11 @@ fn line_end(text: &[u8], from: usize) -> usize
     i
 }
 
-fn cases(input: &[u8]) {
+fn cases(rt: &HostRuntime, input: &[u8]) {
     let mut at = 0;
     while at < input.len() {
         let end = line_end(input, at);
-        attempt(&input[at..end]);
+        attempt(rt, &input[at..end]);
         if end < input.len() {
             at = end + 1;
         } else {
@@ -83,9 +85,9 @@ fn cases(input: &[u8]) {
     }
 }
 
-fn main() {
+fn main(rt: HostRuntime) {
     let mut input = io::buffer();
-    let got = pipe::read(&mut input);
+    let got = pipe::read(&rt, &mut input);
     let n = got.n;
-    cases(&input[..n]);
+    cases(&rt, &input[..n]);
 }

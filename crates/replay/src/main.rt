@@ -1,35 +1,37 @@
 // Replays questions that were put to the Rust, those that need no tables: a line of numbers in, the answer's numbers out.
 // The first number of a line names the module. The stored output is the Rust's own.
+#![tactic(auto)]
+
 mod of_bits;
 mod of_fixed;
 mod of_synth;
 
-use libc::STDIN_FILENO;
 use questions::Question;
 
 // 0 fixed, 1 synth, 2 bits
-fn answer(q: Question) {
+fn answer(rt: &HostRuntime, q: Question) {
     let n = q.numbers;
     let count = q.count;
     match n[0] {
-        0 => of_fixed::answer(n),
-        1 => of_synth::answer(n, count),
-        2 => of_bits::answer(n),
-        _ => numbers::say(&[]),
+        0 => of_fixed::answer(rt, n),
+        1 => of_synth::answer(rt, n, count),
+        2 => of_bits::answer(rt, n),
+        _ => numbers::say(rt, &[]),
     }
 }
 
-fn answers(s: &[u8]) {
+fn answers(rt: &HostRuntime, s: &[u8]) {
     let mut from = 0;
     while from < s.len() {
         let q = questions::line(s, from);
         from = q.next;
-        answer(q);
+        answer(rt, q);
     }
 }
 
-fn main() {
+fn main(rt: HostRuntime) {
     let mut room = [0u8; 262144];
-    let n = io::read_full(STDIN_FILENO, &mut room);
-    answers(&room[..n]);
+    let got = pipe::read_full(&rt, &mut room);
+    let n = got.n;
+    answers(&rt, &room[..n]);
 }

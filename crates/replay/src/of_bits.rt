@@ -2,7 +2,6 @@
 ghost use Rattle.std.specs.Prelude.{◌≡◌, length};
 
 use bits::{FrameParams, HalfParams, Unpacked};
-use libc::STDOUT_FILENO;
 use numbers::{end_line, say, say_numbers};
 
 fn byte(x: i64) -> u8 {
@@ -63,33 +62,33 @@ fn count(x: u8) -> u64 {
 }
 
 // The bytes, each after a blank.
-fn say_bytes(b: &[u8]) {
+fn say_bytes(rt: &HostRuntime, b: &[u8]) {
     let mut i = 0;
     while i < b.len() {
-        io::write_all(STDOUT_FILENO, b" ");
-        io::print_decimal(STDOUT_FILENO, count(b[i]));
+        pipe::write(rt, b" ");
+        numbers::say_digits(rt, count(b[i]));
         i += 1;
     }
 }
 
 // The gain index after a blank.
-fn say_gain_index(h: HalfParams, sub: usize) {
-    io::write_all(STDOUT_FILENO, b" ");
-    io::print_decimal(STDOUT_FILENO, frame_params::gain_index(h, sub) as u64);
+fn say_gain_index(rt: &HostRuntime, h: HalfParams, sub: usize) {
+    pipe::write(rt, b" ");
+    numbers::say_digits(rt, frame_params::gain_index(h, sub) as u64);
 }
 
-fn accepted(f: FrameParams) {
+fn accepted(rt: &HostRuntime, f: FrameParams) {
     let mut room = [0u8; 20];
     frame_params::pack(f, &mut room);
     let x = f.first;
     let y = f.second;
-    say_numbers(&halves(0, x, y));
-    say_bytes(&room);
-    say_gain_index(x, 0);
-    say_gain_index(x, 1);
-    say_gain_index(y, 0);
-    say_gain_index(y, 1);
-    end_line();
+    say_numbers(rt, &halves(0, x, y));
+    say_bytes(rt, &room);
+    say_gain_index(rt, x, 0);
+    say_gain_index(rt, x, 1);
+    say_gain_index(rt, y, 0);
+    say_gain_index(rt, y, 1);
+    end_line(rt);
 }
 
 fn zero() -> HalfParams {
@@ -109,11 +108,11 @@ fn zero() -> HalfParams {
     }
 }
 
-pub fn answer(n: [i64; 128]) {
+pub fn answer(rt: &HostRuntime, n: [i64; 128]) {
     let mut room = [0u8; 20];
     payload(n, &mut room);
     match frame_params::unpack(&room) {
-        Unpacked::Fields(f) => accepted(f),
-        Unpacked::Refused(k) => say(&halves(wide(k), zero(), zero())),
+        Unpacked::Fields(f) => accepted(rt, f),
+        Unpacked::Refused(k) => say(rt, &halves(wide(k), zero(), zero())),
     }
 }

@@ -22,33 +22,36 @@ fn divided(v: i64, by: i16, steps: u64) -> i64 {
     reciprocal::restoring_divide(fixed::acc(v), by, (steps % 64) as u32)
 }
 
-fn one(x: i64) {
-    say(&[x]);
+fn one(rt: &HostRuntime, x: i64) {
+    say(rt, &[x]);
 }
 
-pub fn answer(n: [i64; 128]) {
+pub fn answer(rt: &HostRuntime, n: [i64; 128]) {
     let v = n[2];
     let x = word(v);
     let y = word(n[3]);
     match n[1] {
-        0 => one(fixed::acc(v)),
-        1 => one(fixed::sat(v)),
-        2 => one(wide_word(fixed::hi(v))),
-        3 => one(wide_word(fixed::low(v))),
-        4 => one(fixed::mul(x, y)),
-        5 => one(fixed::mul_us(x, y)),
-        6 => one(fixed::mul32x16(v, y)),
-        7 => one(fixed::trunc32(v)),
-        8 => one(wide32(reciprocal::exp(v))),
-        9 => one(fixed::shift(v, amount(n[3]))),
-        10 => one(divided(v, y, fixed::magnitude(n[4]))),
+        0 => one(rt, fixed::acc(v)),
+        1 => one(rt, fixed::sat(v)),
+        2 => one(rt, wide_word(fixed::hi(v))),
+        3 => one(rt, wide_word(fixed::low(v))),
+        4 => one(rt, fixed::mul(x, y)),
+        5 => one(rt, fixed::mul_us(x, y)),
+        6 => one(rt, fixed::mul32x16(v, y)),
+        7 => one(rt, fixed::trunc32(v)),
+        8 => one(rt, wide32(reciprocal::exp(v))),
+        9 => one(rt, fixed::shift(v, amount(n[3]))),
+        10 => one(rt, divided(v, y, fixed::magnitude(n[4]))),
         _ => {
             let r = reciprocal::normalised_reciprocal(v);
-            say(&[
-                reciprocal::quotient(r),
-                wide32(reciprocal::exponent(r)),
-                wide8(reciprocal::zeros(r)),
-            ]);
+            say(
+                rt,
+                &[
+                    reciprocal::quotient(r),
+                    wide32(reciprocal::exponent(r)),
+                    wide8(reciprocal::zeros(r)),
+                ],
+            );
         }
     }
 }

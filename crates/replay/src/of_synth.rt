@@ -1,7 +1,7 @@
 // The answers of synth: eleven coefficients, ten of memory, the inputs; out come the outputs and the memory.
 use numbers::{end_line, say_words, words};
 
-fn filtered(a: &[i16], input: &[i16], output: &mut [i16], mem: &mut [i16]) {
+fn filtered(rt: &HostRuntime, a: &[i16], input: &[i16], output: &mut [i16], mem: &mut [i16]) {
     if a.len() != 11 {
         return;
     }
@@ -15,22 +15,29 @@ fn filtered(a: &[i16], input: &[i16], output: &mut [i16], mem: &mut [i16]) {
         return;
     }
     synthesis::synthesis(a, input, output, mem);
-    say_words(output, false);
-    say_words(mem, 0 < input.len());
-    end_line();
+    say_words(rt, output, false);
+    say_words(rt, mem, 0 < input.len());
+    end_line(rt);
 }
 
-fn first(a: &[i16], input: &[i16], output: &mut [i16], mem: &mut [i16], len: usize) {
+fn first(
+    rt: &HostRuntime,
+    a: &[i16],
+    input: &[i16],
+    output: &mut [i16],
+    mem: &mut [i16],
+    len: usize,
+) {
     if input.len() < len {
         return;
     }
     if output.len() < len {
         return;
     }
-    filtered(a, &input[..len], &mut output[..len], mem);
+    filtered(rt, a, &input[..len], &mut output[..len], mem);
 }
 
-pub fn answer(n: [i64; 128], count: usize) {
+pub fn answer(rt: &HostRuntime, n: [i64; 128], count: usize) {
     let mut a = [0i16; 11];
     let mut mem = [0i16; 10];
     let mut input = [0i16; 80];
@@ -39,6 +46,6 @@ pub fn answer(n: [i64; 128], count: usize) {
     words(n, 12, &mut mem);
     words(n, 22, &mut input);
     if 22 <= count {
-        first(&a, &input, &mut output, &mut mem, count - 22);
+        first(rt, &a, &input, &mut output, &mut mem, count - 22);
     }
 }

@@ -5,7 +5,6 @@ ghost use Rattle.tables.specs.Places.{BYTES};
 
 use fixed::magnitude;
 use gain::Decoded;
-use libc::STDOUT_FILENO;
 use numbers::{floats_from, say_floats, say_numbers, wide_word, words};
 
 fn index(x: i64) -> usize
@@ -28,18 +27,18 @@ fn decoded(bytes: &[u8], n: [i64; 128]) -> Decoded
     gain_state::decode(bytes, history(n), index(n[2]), &code)
 }
 
-fn say_decoded(d: Decoded) {
+fn say_decoded(rt: &HostRuntime, d: Decoded) {
     let after = d.gains;
-    say_numbers(&[wide_word(d.pitch_gain), wide_word(d.code_gain)]);
-    io::write_all(STDOUT_FILENO, b" ");
-    say_floats(&after);
+    say_numbers(rt, &[wide_word(d.pitch_gain), wide_word(d.code_gain)]);
+    pipe::write(rt, b" ");
+    say_floats(rt, &after);
 }
 
-pub fn answer(bytes: &[u8], n: [i64; 128])
+pub fn answer(rt: &HostRuntime, bytes: &[u8], n: [i64; 128])
     requires { length bytes.now ≡ BYTES }
 {
     match n[1] {
-        0 => say_decoded(decoded(bytes, n)),
-        _ => say_floats(&gain_state::initial_history(bytes)),
+        0 => say_decoded(rt, decoded(bytes, n)),
+        _ => say_floats(rt, &gain_state::initial_history(bytes)),
     }
 }

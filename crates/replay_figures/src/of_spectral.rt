@@ -61,14 +61,14 @@ fn paired(words: &[i16], lsf: [f32; 10]) -> [i16; 10]
     lsp::lsf_to_lsp(words, spectral::quantise_lsf(lsf))
 }
 
-pub fn answer(words: &[i16], bytes: &[u8], n: [i64; 128])
+pub fn answer(rt: &HostRuntime, words: &[i16], bytes: &[u8], n: [i64; 128])
     requires { (length words.now ≡ WORDS) × (length bytes.now ≡ BYTES) }
 {
     match n[1] {
-        0 => say_floats(&residual(words, bytes, n)),
-        1 => say_floats(&predicted(bytes, n)),
-        2 => say_line(&paired(words, ten(n, 2))),
-        3 => say_floats(&spectral::initial(words)),
-        _ => say_floats(&spectral::push(thirty(n, 2), ten(n, 32))),
+        0 => say_floats(rt, &residual(words, bytes, n)),
+        1 => say_floats(rt, &predicted(bytes, n)),
+        2 => say_line(rt, &paired(words, ten(n, 2))),
+        3 => say_floats(rt, &spectral::initial(words)),
+        _ => say_floats(rt, &spectral::push(thirty(n, 2), ten(n, 32))),
     }
 }

@@ -2,28 +2,27 @@
 ghost use Rattle.tables.specs.SoundWords.{SoundWords};
 
 use code_index::Innovation;
-use libc::STDOUT_FILENO;
 use numbers::{end_line, say, say_words};
 
 fn index(x: i64) -> u16 {
     (fixed::magnitude(x) % 65536) as u16
 }
 
-fn say_innovation(i: Innovation) {
-    io::write_all(STDOUT_FILENO, b"1 ");
-    io::print_decimal(STDOUT_FILENO, i.class as u64);
+fn say_innovation(rt: &HostRuntime, i: Innovation) {
+    pipe::write(rt, b"1 ");
+    numbers::say_digits(rt, i.class as u64);
     let code = i.code;
-    say_words(&code, true);
-    end_line();
+    say_words(rt, &code, true);
+    end_line(rt);
 }
 
-pub fn answer(words: &[i16], n: [i64; 128])
+pub fn answer(rt: &HostRuntime, words: &[i16], n: [i64; 128])
     requires { SoundWords words.now }
 {
     let i = index(n[1]);
     if code_index::digits_fit(words, i) {
-        say_innovation(codebook::decode(words, i));
+        say_innovation(rt, codebook::decode(words, i));
     } else {
-        say(&[0]);
+        say(rt, &[0]);
     }
 }

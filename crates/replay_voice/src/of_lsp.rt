@@ -3,7 +3,6 @@
 ghost use Rattle.std.specs.Prelude.{◌≡◌, ℕ, ◌+◌, ◌<◌, ◌≤◌, length, get_or, pos, ◌≤ℤ◌};
 ghost use Rattle.tables.specs.Places.{WORDS};
 
-use libc::STDOUT_FILENO;
 use numbers::{end_line, say_line, say_words};
 use reflection::Reflection;
 
@@ -40,21 +39,21 @@ fn eleven(n: [i64; 128]) -> [i16; 11] {
     w
 }
 
-fn say_reflection(r: Reflection) {
+fn say_reflection(rt: &HostRuntime, r: Reflection) {
     let coefficients = r.coefficients;
-    say_words(&coefficients, false);
-    io::write_all(STDOUT_FILENO, b" ");
-    io::print_decimal(STDOUT_FILENO, r.zero_residuals as u64);
-    end_line();
+    say_words(rt, &coefficients, false);
+    pipe::write(rt, b" ");
+    numbers::say_digits(rt, r.zero_residuals as u64);
+    end_line(rt);
 }
 
-pub fn answer(words: &[i16], n: [i64; 128])
+pub fn answer(rt: &HostRuntime, words: &[i16], n: [i64; 128])
     requires { length words.now ≡ WORDS }
 {
     match n[1] {
-        0 => say_line(&lsp::lsf_to_lsp(words, frequencies(n))),
-        1 => say_line(&lsp::lsp_to_lpc(ten(n, 2))),
-        2 => say_line(&lsp::midpoint(ten(n, 2), ten(n, 12))),
-        _ => say_reflection(levinson::reflection_coefficients(eleven(n))),
+        0 => say_line(rt, &lsp::lsf_to_lsp(words, frequencies(n))),
+        1 => say_line(rt, &lsp::lsp_to_lpc(ten(n, 2))),
+        2 => say_line(rt, &lsp::midpoint(ten(n, 2), ten(n, 12))),
+        _ => say_reflection(rt, levinson::reflection_coefficients(eleven(n))),
     }
 }

@@ -46,36 +46,36 @@ fn asked(n: [i64; 128]) -> Lag
     pitch::decode_relative(relative(n[2]), before(n[1]))
 }
 
-fn say_lag(l: Lag) {
-    say_line(&[l.integer, l.frac]);
+fn say_lag(rt: &HostRuntime, l: Lag) {
+    say_line(rt, &[l.integer, l.frac]);
 }
 
 // The last 80 of the samples are rewritten before they are read.
-fn say_prediction(words: &[i16], l: Lag, seed: u64)
+fn say_prediction(rt: &HostRuntime, words: &[i16], l: Lag, seed: u64)
     requires { (length words.now ≡ WORDS) × Pitch.Sane l }
 {
     let mut exc = [0i16; 234];
     samples(seed, &mut exc);
     adaptive::predict(words, &mut exc, 154, l);
-    say_line(&exc[154..]);
+    say_line(rt, &exc[154..]);
 }
 
-fn say_sharpened(words: &[i16], l: Lag, seed: u64, gain: i16)
+fn say_sharpened(rt: &HostRuntime, words: &[i16], l: Lag, seed: u64, gain: i16)
     requires { (length words.now ≡ WORDS) × Pitch.Sane l }
 {
     let mut code = [0i16; 80];
     samples(seed, &mut code);
     adaptive::sharpen(words, &mut code, l, gain);
-    say_line(&code);
+    say_line(rt, &code);
 }
 
-pub fn answer(words: &[i16], n: [i64; 128])
+pub fn answer(rt: &HostRuntime, words: &[i16], n: [i64; 128])
     requires { length words.now ≡ WORDS }
 {
     let l = asked(n);
     match n[3] {
-        2 => say_prediction(words, l, magnitude(n[4])),
-        3 => say_sharpened(words, l, magnitude(n[4]), fixed::low(n[5])),
-        _ => say_lag(l),
+        2 => say_prediction(rt, words, l, magnitude(n[4])),
+        3 => say_sharpened(rt, words, l, magnitude(n[4]), fixed::low(n[5])),
+        _ => say_lag(rt, l),
     }
 }

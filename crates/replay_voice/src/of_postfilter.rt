@@ -20,7 +20,7 @@ fn begun(words: &[i16], seed: u64) -> OutputFilter
     left.filter
 }
 
-pub fn answer(words: &[i16], n: [i64; 128])
+pub fn answer(rt: &HostRuntime, words: &[i16], n: [i64; 128])
     requires { length words.now ≡ WORDS }
 {
     let seed = magnitude(n[1]) % 65536;
@@ -28,5 +28,5 @@ pub fn answer(words: &[i16], n: [i64; 128])
     let mut block = [0i16; 16];
     samples(seed, &mut block);
     postfilter::run(filter, words, &mut block);
-    say_line(&block);
+    say_line(rt, &block);
 }

@@ -1,4 +1,6 @@
 // What a command of the player is answered: its text, the records of the shelf after it, and what it leaves to play.
+#![tactic(auto)]
+
 ghost use Rattle.std.specs.Prelude.{◌≡◌, ◌≤◌, length};
 ghost use Rattle.stream.specs.Decimal.{figure};
 ghost use Rattle.shelf.specs.Shelf as Shelf;
@@ -11,7 +13,7 @@ use slots::Slot;
 use state::State;
 
 // What is left to play: the state before the next frame, the place of its line in the recording, and how many frames are asked for.
-#[derive(Drop)]
+#[derive(Clone, Copy)]
 pub struct Cue {
     pub state: State,
     pub place: usize,
@@ -19,7 +21,7 @@ pub struct Cue {
 }
 
 // What a command leaves: the records and what is to be played, and how long its text is.
-#[derive(Drop)]
+#[derive(Clone, Copy)]
 pub struct Obeyed {
     pub slots: [Slot; 16],
     pub cue: Cue,

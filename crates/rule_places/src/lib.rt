@@ -1,4 +1,6 @@
 // The set rules place by place: whether a place of a lent table set breaks its rule.
+#![tactic(auto)]
+
 ghost use Rattle.std.specs.Prelude.{◌≡◌, ◌<◌, length};
 ghost use Rattle.tables.specs.Places as Places;
 ghost use Rattle.tables.specs.Tables as Tables;

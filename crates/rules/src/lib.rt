@@ -1,4 +1,6 @@
 // The set rules: whether a lent table set obeys them, and which it breaks first and where.
+#![tactic(auto)]
+
 ghost use Rattle.std.specs.Prelude.{◌≡◌, ◌||◌, ◌<◌, length};
 ghost use Rattle.sequence.specs.First.{first, some};
 ghost use Rattle.tables.specs.Places as Places;

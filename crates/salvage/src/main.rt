@@ -1,8 +1,9 @@
 // A damaged recording mended: read, repair's call, write. The mended file goes to standard output, the list of what was changed to standard error.
+#![tactic(auto)]
+
 ghost use Rattle.std.specs.Prelude.{◌≡◌, length};
 ghost use Rattle.repair.specs.Feed as Feed;
 
-use libc::STDERR_FILENO;
 use repair::Mender;
 
 // Where the file stands after a read, how long the texts were that were written, and whether there may be more.
@@ -16,16 +17,16 @@ struct Turn {
 }
 
 // One read, and all the text that it gives.
-fn take_in(mender: Mender, held: &mut [u8]) -> Turn
+fn take_in(rt: &HostRuntime, mender: Mender, held: &mut [u8]) -> Turn
     requires { length held.old ≡ 4096 }
     ensures { Feed.TookIn (Feed.standing mender held.old) (Feed.standing result.mender held.new) result.repaired result.listed result.more result.failed }
 {
     let mut chunk = io::buffer();
     let mut out = [0u8; 8273];
     let mut list = [0u8; 167977];
-    let got = pipe::read(&mut chunk);
+    let got = pipe::read(rt, &mut chunk);
     if got.failed {
-        os::fail(b"salvage: cannot read");
+        pipe::tell(rt, b"salvage: cannot read", got.why);
         return Turn {
             mender,
             repaired: 0,
@@ -39,9 +40,9 @@ fn take_in(mender: Mender, held: &mut [u8]) -> Turn
     let next = fed.mender;
     let a = fed.repaired;
     let b = fed.listed;
-    let put = pipe::write(&out[..a]);
+    let put = pipe::write(rt, &out[..a]);
     if put.failed {
-        os::fail(b"salvage: cannot write");
+        pipe::tell(rt, b"salvage: cannot write", put.why);
         return Turn {
             mender: next,
             repaired: 0,
@@ -50,9 +51,9 @@ fn take_in(mender: Mender, held: &mut [u8]) -> Turn
             failed: true,
         };
     }
-    let told = pipe::write_error(&list[..b]);
+    let told = pipe::write_error(rt, &list[..b]);
     if told.failed {
-        os::fail(b"salvage: cannot write the list");
+        pipe::tell(rt, b"salvage: cannot write the list", told.why);
         return Turn {
             mender: next,
             repaired: 0,
@@ -70,22 +71,19 @@ fn take_in(mender: Mender, held: &mut [u8]) -> Turn
     }
 }
 
-fn stopped() {
-    io::write_all(
-        STDERR_FILENO,
-        b"salvage: stopped after 18446744073709551615 reads\n",
-    );
+fn stopped(rt: &HostRuntime) {
+    pipe::write_error(rt, b"salvage: stopped after 18446744073709551615 reads\n");
 }
 
 // Each turn reads a byte or more, or is the last. A proved loop has to end and nothing says that an input does, so the turns are
 // counted, as in console.
-fn run(held: &mut [u8])
+fn run(rt: &HostRuntime, held: &mut [u8])
     requires { length held.old ≡ 4096 }
 {
     let mut mender = repair::begin();
     let mut turns = u64::MAX;
     while turns > 0 {
-        let t = take_in(mender, held);
+        let t = take_in(rt, mender, held);
         if !t.more {
             return;
         }
@@ -93,10 +91,10 @@ fn run(held: &mut [u8])
         mender = next;
         turns -= 1;
     }
-    stopped();
+    stopped(rt);
 }
 
-fn main() {
+fn main(rt: HostRuntime) {
     let mut held = io::buffer();
-    run(&mut held);
+    run(&rt, &mut held);
 }

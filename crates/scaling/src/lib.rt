@@ -1,4 +1,6 @@
 // A value of the output filter saturated to 16 bits, and scaled; and whether saturation changes one on a sample's way.
+#![tactic(auto)]
+
 ghost use Rattle.std.specs.Prelude.{◌≡◌, map};
 ghost use Rattle.output_filter.specs.Postfilter as Postfilter;
 ghost use Rattle.output_filter.specs.Sections as Sections;

@@ -1,4 +1,6 @@
 // One section of the output filter: its taps and its delay lines, a block through it, the block saturated, and how much of it that changed.
+#![tactic(auto)]
+
 ghost use Rattle.std.specs.Prelude.{◌≡◌, ◌≤◌, map, length};
 ghost use Rattle.tables.specs.Places.{WORDS};
 ghost use Rattle.fixed.specs.Fixed as Fixed;

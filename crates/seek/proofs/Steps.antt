@@ -14,7 +14,7 @@ use Rattle.state.specs.State.{obeys}
 use Rattle.slots.specs.declared.Slot.{Slot}
 use Rattle.slots.specs.declared.Records.{Records}
 use Rattle.slots.specs.Slots.{no_slot, shown}
-use Rattle.slot_users.specs.Users.{SLOTS, users, slot_at}
+use Rattle.slot_users.specs.Users.{SLOTS, slot_at}
 use Rattle.slot_users.specs.Held.{held_yes}
 use Rattle.shelf.specs.declared.Fetched.{Fetched}
 use Rattle.shelf.specs.Shelf.{ROOM, state_at, lent, judged, not_fetched, fetch_lent, fetch}

@@ -14,7 +14,8 @@ use Rattle.stream.specs.Told.{after}
 use Rattle.state.specs.declared.State.{State}
 use Rattle.state.specs.State.{all_zero, obeys, started, started_by, reset, cold_start}
 use Rattle.calls.specs.Run.{run}
-use Rattle.calls.specs.StateRule.{Obeying, initial_obeying, run_obeying}
+use Rattle.calls.specs.StateRule.{Obeying, initial_obeying}
+use Rattle.calls.proofs.StateRule.{run_obeying}
 use Rattle.heard.specs.Recording.{event, is_start, Opening, opening, line_step}
 use Rattle.slots.specs.declared.Slot.{Slot}
 use Rattle.slot_users.specs.Users.{SLOTS, slot_at}

@@ -1,4 +1,6 @@
 // Seeking frame k of a recording: from the save that serves best forward to it.
+#![tactic(auto)]
+
 ghost use Rattle.std.specs.Prelude.{◌≡◌, ◌<◌, length};
 ghost use Rattle.shelf.specs.Shelf as Shelf;
 ghost use Rattle.best_save.specs.Best as Best;
@@ -10,7 +12,7 @@ use slots::{Records, Slot};
 use state::State;
 
 // What a seek answers: a refusal number and the all-zero state, or 0 and the state that frame k will be decoded with.
-#[derive(Drop)]
+#[derive(Clone, Copy)]
 pub struct Sought {
     pub number: u8,
     pub state: State,

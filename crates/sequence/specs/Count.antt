@@ -44,7 +44,9 @@ count_end test {i} {n} p q e = let h : i ≡ n = omega arith in e ∙ ap (count 
 -- no more than there are places
 pub count_le : (test : ℕ → Bool) (n : ℕ) → count test n ≤ n
 count_le test zero = omega (arith, count_none test)
-count_le test (suc n) = omega (arith, next test n, count_le test n, one_le (test n))
+count_le test (suc n) =
+    let le : (b : Bool) → one b ≤ 1 = elim [ true ↦ omega arith | false ↦ omega arith ] in
+    omega (arith, next test n, count_le test n, le (test n))
 
 -- the count sees only the places below n
 pub count_same : (f g : ℕ → Bool) (n : ℕ) → ((k : ℕ) → k < n → f k ≡ g k) → count f n ≡ count g n

@@ -1,4 +1,6 @@
 // A subframe's innovation, sharpened by its class and lag, and its figures as they are reported.
+#![tactic(auto)]
+
 ghost use Rattle.std.specs.Prelude.{◌≡◌, true, pos, length, get_or};
 ghost use Rattle.tables.specs.Places.{WORDS};
 ghost use Rattle.tables.specs.SoundWords.{SoundWords};

@@ -16,7 +16,7 @@ use mathlib.Core.List.{List, [], ◌∷◌}
 use Rattle.std.proofs.Math.Bool.{true, false, cond}
 use native.Mathlib.Omega.{arith}
 use Rattle.std.proofs.Math.Dec.{eqb, ltb}
-use borrow.Author.Tests.{eqb-true, eqb-false, ltb-true, ltb-false}
+use borrow.Author.Tests.{eqb-true, eqb-false, ltb-true, ltb-false, lt-ltb}
 use Rattle.std.proofs.lemmas.List.{length-replicate, get_or-replicate}
 use Rattle.std.proofs.Math.ListN.{get_or-eq_default}
 use Rattle.sequence.specs.First.{first_at, first_before}
@@ -32,7 +32,7 @@ use Rattle.slot_users.specs.Users.{SLOTS, users, slot_at, free, of_held, Decisio
 use Rattle.slot_users.specs.Held.{held_out, held_none, held_yes}
 use Rattle.shelf.specs.Shelf as Calls
 use Rattle.shelf.specs.Shelf.{ROOM, state_at, with_image, lent, judged, not_fetched, number, slots_after, images_after}
-use Rattle.shelf.specs.Cases.{judged_lent, is_lent, save_taken}
+use Rattle.shelf.specs.Cases.{judged_lent, is_lent}
 use Rattle.shelf.specs.Images.{length_with, state_same, state_other}
 use Rattle.shelf.specs.Run.{Shelf, zeros, Call, save, hold, let_go, fetch, saving, holding, letting_go, after, run, on, save1, hold1, let_go1, saves, holds, lettings, last1, last_saved, HeldCall, Holdable}
 
@@ -78,15 +78,19 @@ data Saves (l : List Slot) (room : ℕ) (s : State) (f : ℕ) : Type 0 where
   refused : (n : ℕ) → Calls.save l room s f ≡ refuse (suc n) → Saves l room s f
   done : Calls.save l room s f ≡ change (free l) (record { users = 1; frame = f }) → free l < SLOTS → obeys s ≡ true → Saves l room s f
 
-see_save : (l : List Slot) (room : ℕ) (s : State) (f : ℕ) → Saves l room s f
-unfolding Calls.save Calls.save_lent judged
-see_save l room s f = by (lent (length l) room) (ltb (free l) SLOTS) (obeys s) refl refl refl
+-- what becomes of the slot of a save
+abbrev SavesOne : Type 0
+SavesOne = (l : List Slot) (s : State) (f : ℕ) → Calls.save_lent l s f ≡ cond (ltb (free l) SLOTS) (cond (obeys s) (change (free l) (record { users = 1; frame = f })) (refuse 5)) (refuse 14)
+
+see_save : SavesOne → (l : List Slot) (room : ℕ) (s : State) (f : ℕ) → Saves l room s f
+unfolding Calls.save judged
+see_save one l room s f = by (lent (length l) room) (ltb (free l) SLOTS) (obeys s) refl refl refl
   where
     by : (a b c : Bool) → lent (length l) room ≡ a → ltb (free l) SLOTS ≡ b → obeys s ≡ c → Saves l room s f
     by false b c p q r = refused 11 (rw p)
-    by true false c p q r = refused 13 (rw (p, q))
-    by true true false p q r = refused 4 (rw (p, q, r))
-    by true true true p q r = done (rw (p, q, r)) (ltb-true (free l) SLOTS q) r
+    by true false c p q r = refused 13 (rw (p, one l s f, q))
+    by true true false p q r = refused 4 (rw (p, one l s f, q, r))
+    by true true true p q r = done (rw (p, one l s f, q, r)) (ltb-true (free l) SLOTS q) r
 
 -- ---- what an answer of 0 says
 module _ (l : List Slot) (room : ℕ) where
@@ -107,8 +111,8 @@ module _ (l : List Slot) (room : ℕ) where
       by (done p q r) = p
 
   pub accepted_save : (s : State) (f : ℕ) → number (Calls.save l room s f) ≡ 0 → Calls.save l room s f ≡ change (free l) (record { users = 1; frame = f })
-  unfolding number
-  accepted_save s f e = by (see_save l room s f)
+  unfolding number Calls.save_lent
+  accepted_save s f e = by (see_save (λ l s f. refl) l room s f)
     where
       by : Saves l room s f → Calls.save l room s f ≡ change (free l) (record { users = 1; frame = f })
       by (refused n p) = absurd (let w = ap number p in omega arith)
@@ -124,9 +128,9 @@ unfolding slots_after
 slots_long (refuse n) l = refl
 slots_long (change k s) l = length-set l k s
 
-images_long : (l : List Slot) (m : List ℕ) (s : State) (f : ℕ) → Held s → length m ≡ ROOM → length (images_after (Calls.save l (length m) s f) (Image.image s) m) ≡ ROOM
+images_long : SavesOne → (l : List Slot) (m : List ℕ) (s : State) (f : ℕ) → Held s → length m ≡ ROOM → length (images_after (Calls.save l (length m) s f) (Image.image s) m) ≡ ROOM
 unfolding images_after
-images_long l m s f g e = by (see_save l (length m) s f)
+images_long one l m s f g e = by (see_save one l (length m) s f)
   where
     by : Saves l (length m) s f → length (images_after (Calls.save l (length m) s f) (Image.image s) m) ≡ ROOM
     by (refused n p) = rw p e
@@ -139,17 +143,17 @@ records_long h (hold k) = slots_long (holding h k) h.slots
 records_long h (let_go k) = slots_long (letting_go h k) h.slots
 records_long h (fetch k) = refl
 
-sized : (h : Shelf) (c : Call) → HeldCall c → Sized h → Sized (after h c)
+sized : SavesOne → (h : Shelf) (c : Call) → HeldCall c → Sized h → Sized (after h c)
 unfolding after HeldCall
-sized h (save s f) g z = record { records = records_long h (save s f) ∙ z.records; bytes = images_long h.slots h.images s f g z.bytes }
-sized h (hold k) g z = record { records = records_long h (hold k) ∙ z.records; bytes = z.bytes }
-sized h (let_go k) g z = record { records = records_long h (let_go k) ∙ z.records; bytes = z.bytes }
-sized h (fetch k) g z = z
+sized one h (save s f) g z = record { records = records_long h (save s f) ∙ z.records; bytes = images_long one h.slots h.images s f g z.bytes }
+sized one h (hold k) g z = record { records = records_long h (hold k) ∙ z.records; bytes = z.bytes }
+sized one h (let_go k) g z = record { records = records_long h (let_go k) ∙ z.records; bytes = z.bytes }
+sized one h (fetch k) g z = z
 
-sized_run : (h : Shelf) (cs : List Call) → Holdable cs → Sized h → Sized (run h cs)
+sized_run : SavesOne → (h : Shelf) (cs : List Call) → Holdable cs → Sized h → Sized (run h cs)
 unfolding run Holdable
-sized_run h [] g z = z
-sized_run h (c ∷ cs) g z = sized_run (after h c) cs g.1 (sized h c g.0 z)
+sized_run one h [] g z = z
+sized_run one h (c ∷ cs) g z = sized_run one (after h c) cs g.1 (sized one h c g.0 z)
 
 zeros_sized : Sized zeros
 unfolding zeros
@@ -178,9 +182,9 @@ module _ (k : ℕ) where
       by false p = refl
 
   module _ (l : List Slot) (room : ℕ) (long : length l ≡ SLOTS) where
-    save_counted : (s : State) (f : ℕ) → users (slots_after (Calls.save l room s f) l) k ≡ users l k + on k (Calls.save l room s f)
+    save_counted : SavesOne → (s : State) (f : ℕ) → users (slots_after (Calls.save l room s f) l) k ≡ users l k + on k (Calls.save l room s f)
     unfolding slots_after on
-    save_counted s f = by (see_save l room s f)
+    save_counted one s f = by (see_save one l room s f)
       where
         by : Saves l room s f → users (slots_after (Calls.save l room s f) l) k ≡ users l k + on k (Calls.save l room s f)
         by (refused n p) = rw p (omega arith)
@@ -205,18 +209,18 @@ module _ (k : ℕ) where
         by (done p q r) = rw p (set_counted l j (record { users = users l j - 1; frame = (slot_at l j).frame }) 0 1 (omega arith) (omega arith) ∙ plus_none _ (eqb j k))
 
   -- one call
-  counted : (h : Shelf) (c : Call) → length h.slots ≡ SLOTS → users (after h c).slots k + let_go1 k h c ≡ users h.slots k + save1 k h c + hold1 k h c
+  counted : SavesOne → (h : Shelf) (c : Call) → length h.slots ≡ SLOTS → users (after h c).slots k + let_go1 k h c ≡ users h.slots k + save1 k h c + hold1 k h c
   unfolding after save1 hold1 let_go1
-  counted h (save s f) z = let e = save_counted h.slots (length h.images) z s f in omega arith
-  counted h (hold j) z = let e = hold_counted h.slots (length h.images) z j in omega arith
-  counted h (let_go j) z = let e = let_go_counted h.slots (length h.images) z j in omega arith
-  counted h (fetch j) z = omega arith
+  counted one h (save s f) z = let e = save_counted h.slots (length h.images) z one s f in omega arith
+  counted one h (hold j) z = let e = hold_counted h.slots (length h.images) z j in omega arith
+  counted one h (let_go j) z = let e = let_go_counted h.slots (length h.images) z j in omega arith
+  counted one h (fetch j) z = omega arith
 
   -- a sequence, from any shelf of sixteen records
-  users_from : (h : Shelf) (cs : List Call) → length h.slots ≡ SLOTS → users (run h cs).slots k + lettings k h cs ≡ users h.slots k + saves k h cs + holds k h cs
+  users_from : SavesOne → (h : Shelf) (cs : List Call) → length h.slots ≡ SLOTS → users (run h cs).slots k + lettings k h cs ≡ users h.slots k + saves k h cs + holds k h cs
   unfolding run saves holds lettings
-  users_from h [] z = omega arith
-  users_from h (c ∷ cs) z = let e = users_from (after h c) cs (records_long h c ∙ z) in let f = counted h c z in omega arith
+  users_from one h [] z = omega arith
+  users_from one h (c ∷ cs) z = let e = users_from one (after h c) cs (records_long h c ∙ z) in let f = counted one h c z in omega arith
 
   zeros_free : users zeros.slots k ≡ 0
   unfolding zeros
@@ -228,7 +232,8 @@ module _ (k : ℕ) where
 
   -- **a slot's users are its accepted saves and holds less its accepted lettings-go**
   pub users_counted : (cs : List Call) → users (run zeros cs).slots k + lettings k zeros cs ≡ saves k zeros cs + holds k zeros cs
-  users_counted cs = let e = users_from zeros cs zeros_sized.records in let z = zeros_free in omega arith
+  unfolding Calls.save_lent
+  users_counted cs = let e = users_from (λ l s f. refl) zeros cs zeros_sized.records in let z = zeros_free in omega arith
 
   -- ---- the state of a slot
   -- what slot k keeps while it has users: d, that obeys the rule
@@ -250,9 +255,9 @@ module _ (k : ℕ) where
     long : length h.slots ≡ SLOTS
     long = z.records
 
-    save_keeps : (s : State) (f : ℕ) → Held s → Keeps (after h (save s f)) (last1 k d h (save s f))
+    save_keeps : SavesOne → (s : State) (f : ℕ) → Held s → Keeps (after h (save s f)) (last1 k d h (save s f))
     unfolding after last1 slots_after images_after on room long
-    save_keeps s f g = by (see_save h.slots room s f)
+    save_keeps one s f g = by (see_save one h.slots room s f)
       where
         -- the slot that is taken, and another
         at : (b : Bool) → eqb (free h.slots) k ≡ b → free h.slots < SLOTS → obeys s ≡ true → 0 < cond b 1 (users h.slots k)
@@ -280,18 +285,18 @@ module _ (k : ℕ) where
         by (refused n p) = rw p i
         by (done p q r) = rw p (set_keeps h d j (record { users = users h.slots j - 1; frame = (slot_at h.slots j).frame }) (omega (arith, long)) (λ _. omega arith) i)
 
-    call_keeps : (c : Call) → HeldCall c → Keeps (after h c) (last1 k d h c)
+    call_keeps : SavesOne → (c : Call) → HeldCall c → Keeps (after h c) (last1 k d h c)
     unfolding HeldCall last1 after
-    call_keeps (save s f) g = save_keeps s f g
-    call_keeps (hold j) g = hold_keeps j
-    call_keeps (let_go j) g = let_go_keeps j
-    call_keeps (fetch j) g = i
+    call_keeps one (save s f) g = save_keeps one s f g
+    call_keeps one (hold j) g = hold_keeps j
+    call_keeps one (let_go j) g = let_go_keeps j
+    call_keeps one (fetch j) g = i
 
   -- a sequence, from any shelf of the right size
-  keeps_from : (h : Shelf) (d : State) (cs : List Call) → Sized h → Holdable cs → Keeps h d → Keeps (run h cs) (last_saved k d h cs)
+  keeps_from : SavesOne → (h : Shelf) (d : State) (cs : List Call) → Sized h → Holdable cs → Keeps h d → Keeps (run h cs) (last_saved k d h cs)
   unfolding run last_saved Holdable
-  keeps_from h d [] z g i = i
-  keeps_from h d (c ∷ cs) z g i = keeps_from (after h c) (last1 k d h c) cs (sized h c g.0 z) g.1 (call_keeps h d z i c g.0)
+  keeps_from one h d [] z g i = i
+  keeps_from one h d (c ∷ cs) z g i = keeps_from one (after h c) (last1 k d h c) cs (sized one h c g.0 z) g.1 (call_keeps h d z i one c g.0)
 
   -- of a shelf of the right size, a call of a slot is refused by what is known of the slot alone
   lent_sized : (h : Shelf) → Sized h → lent (length h.slots) (length h.images) ≡ true
@@ -337,21 +342,25 @@ module _ (k : ℕ) where
   -- **while a slot has users, a fetch is accepted and gives exactly the state last saved there**
   pub fetched : (cs : List Call) → Holdable cs → k < SLOTS → 0 < users (run zeros cs).slots k
       → Calls.fetch (run zeros cs).slots (run zeros cs).images k ≡ record { number = 0; state = last_saved k all_zero zeros cs }
+  unfolding Calls.save_lent
   fetched cs g l u =
-      fetch_held (run zeros cs) (last_saved k all_zero zeros cs) (sized_run zeros cs g zeros_sized) l u (keeps_from zeros all_zero cs zeros_sized g (λ p. absurd (let e = zeros_free in omega arith)) u)
+      fetch_held (run zeros cs) (last_saved k all_zero zeros cs) (sized_run (λ l s f. refl) zeros cs g zeros_sized) l u (keeps_from (λ l s f. refl) zeros all_zero cs zeros_sized g (λ p. absurd (let e = zeros_free in omega arith)) u)
 
   -- **a slot without users is fetched, held and let go by nobody**
   pub unheld : (cs : List Call) → Holdable cs → users (run zeros cs).slots k ≡ 0
       → (Calls.fetch (run zeros cs).slots (run zeros cs).images k ≡ not_fetched 13) × (holding (run zeros cs) k ≡ refuse 13) × (letting_go (run zeros cs) k ≡ refuse 13)
+  unfolding Calls.save_lent
   unheld cs g e =
       let h = run zeros cs in
-      let z = sized_run zeros cs g zeros_sized in
+      let z = sized_run (λ l s f. refl) zeros cs g zeros_sized in
       (fetch_none h z e, hold_none h z e, let_go_none h z e)
 
   -- **a slot without users is used again: a save takes it once it is the lowest**
   pub used_again : (cs : List Call) (s : State) (f : ℕ) → Holdable cs → obeys s ≡ true → k < SLOTS → users (run zeros cs).slots k ≡ 0 → ((j : ℕ) → j < k → users (run zeros cs).slots j ≡ 0 → ⊥)
       → saving (run zeros cs) s f ≡ change k (record { users = 1; frame = f })
+  unfolding Calls.save_lent
   used_again cs s f g o l e b =
       let h = run zeros cs in
       let w = free_is h.slots l e b in
-      judged_save h s f (sized_run zeros cs g zeros_sized) ∙ save_taken h.slots s f (omega arith) o ∙ ap (λ (j : ℕ). change j (record { users = 1; frame = f })) w
+      let t : Calls.save_lent h.slots s f ≡ change (free h.slots) (record { users = 1; frame = f }) = rw (lt-ltb (free h.slots) SLOTS (omega arith), o) in
+      judged_save h s f (sized_run (λ l s f. refl) zeros cs g zeros_sized) ∙ t ∙ ap (λ (j : ℕ). change j (record { users = 1; frame = f })) w

@@ -1,5 +1,7 @@
 // The shelf of saved states: sixteen slot records and as many images, lent by the player.
 // save, hold, let_go and fetch are thin: they read the records by value, leave the decision to a function on plain data, and write one record. What is decided of a slot's users is in slot_users.
+#![tactic(auto)]
+
 ghost use Rattle.std.specs.Prelude.{◌≡◌, ◌<◌, length, set};
 ghost use Rattle.image.specs.Image as Image;
 ghost use Rattle.slots.specs.Slots.{shown};

@@ -1,4 +1,6 @@
 // What is done to slices whole.
+#![tactic(auto)]
+
 ghost use Rattle.std.specs.Prelude.{◌≡◌, length};
 
 // dst becomes src.

@@ -1,4 +1,6 @@
 // What is decided of a slot's users, on sixteen records by value: which slot is free, whether one is held, what a hold and a letting-go make of it.
+#![tactic(auto)]
+
 ghost use Rattle.std.specs.Prelude.{◌≡◌};
 ghost use Rattle.slot_users.specs.Users as Users;
 ghost use Rattle.slot_users.specs.ByValue as ByValue;
@@ -9,7 +11,7 @@ use slots::Slot;
 pub const SLOTS: usize = 16;
 
 // What is to be done to the records: one is written; past the last, none.
-#[derive(Drop)]
+#[derive(Clone, Copy)]
 pub struct Change {
     pub number: u8,
     pub at: usize,

@@ -1,16 +1,18 @@
 // Slot records, lent as a slice of small structs: sixteen are read by value, and one is written. No other function touches a record behind a reference.
+#![tactic(auto)]
+
 ghost use Rattle.std.specs.Prelude.{◌≡◌, ◌<◌, set};
 ghost use Rattle.slots.specs.Slots.{begun, turns, noted, shown};
 
 // How many use the state that is saved there, and the number of the frame that it is decoded with next: at 90,000 frames an hour 32 bits are five years of a call.
-#[derive(Drop)]
+#[derive(Clone, Copy)]
 pub struct Slot {
     pub users: u8,
     pub frame: u32,
 }
 
 // How many records were lent, and the sixteen, all zero where there were not as many.
-#[derive(Drop)]
+#[derive(Clone, Copy)]
 pub struct Records {
     pub count: usize,
     pub slots: [Slot; 16],

@@ -1,4 +1,6 @@
 // What is done with a state that was sought: it is saved, or the frames from there on are left to play; or its refusal is told.
+#![tactic(auto)]
+
 ghost use Rattle.std.specs.Prelude.{◌≡◌, [], ◌≤◌, length};
 ghost use Rattle.replies.specs.Replies as Replies;
 ghost use Rattle.replies.specs.Promised as Promised;

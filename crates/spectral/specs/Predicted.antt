@@ -17,7 +17,7 @@ use Rattle.sequence.specs.Table.{table, length_table, get_or_table}
 use Rattle.spectral.specs.Spectral.{sort, sum_at, sums, smaller, spaced_at, spread, predict, FLOOR, GAP, CEILING}
 use Rattle.sequence.specs.Lists.{Rising, Each, Same, each_table, each_at, same_length}
 use Rattle.spectral.specs.Sorted.{sort_same, sort_each}
-use Rattle.spectral.specs.TotalCmp.{total_le, total_less, finite32, any_sort, total_sort}
+use Rattle.spectral.specs.TotalCmp.{total_le, total_less, finite32, spaced, sorted_same, total_same}
 
 -- ---- spacing: each place adds at most 65,536 to what bounds all of them
 module _ (l : List Float) (h : Bounded (524288 * 65536) 10 l) where
@@ -34,18 +34,22 @@ module _ (l : List Float) (h : Bounded (524288 * 65536) 10 l) where
       (add_within binary32 (spaced_at l k) GAP ((524288 + k) * 65536) 321 ((524288 + suc k) * 65536) (held_scaled (524288 + suc k) (omega arith)) (omega arith) (spaced_within k (omega arith)) (lit≤ tt))
 
   -- the ceiling at most lowers the last
-  spread_at : (k : ℕ) → (k ≡ 9) ⊎ (k < 9) → Within (524297 * 65536) (get_or (spread l) k nan)
-  unfolding spread of_bits
-  spread_at k (inl e) =
+  place_within : (k : ℕ) → (k ≡ 9) ⊎ (k < 9) → Within (524297 * 65536) (get_or (spaced l) k nan)
+  unfolding of_bits
+  place_within k (inl e) =
       let t : 9 < length (table (spaced_at l) 10) = let n = length_table (spaced_at l) 10 in omega arith in
-      subst (λ (x : Float). Within (524297 * 65536) x) (sym (ap (λ (i : ℕ). get_or (spread l) i nan) e ∙ get_or-set_same (table (spaced_at l) 10) 9 (smaller (spaced_at l 9) CEILING) nan t))
+      subst (λ (x : Float). Within (524297 * 65536) x) (sym (ap (λ (i : ℕ). get_or (spaced l) i nan) e ∙ get_or-set_same (table (spaced_at l) 10) 9 (smaller (spaced_at l 9) CEILING) nan t))
       (pick (524297 * 65536) (le (spaced_at l 9) CEILING) (spaced_at l 9) CEILING (spaced_within 9 (lit< tt)) (lit≤ tt))
-  spread_at k (inr g) =
+  place_within k (inr g) =
       subst (λ (x : Float). Within (524297 * 65536) x) (sym (get_or-set_other (table (spaced_at l) 10) 9 k (smaller (spaced_at l 9) CEILING) nan (λ e. omega arith) ∙ get_or_table (spaced_at l) 10 k nan (omega arith)))
       (wider ((524288 + k) * 65536) (524297 * 65536) (spaced_at l k) (omega arith) (spaced_within k (omega arith)))
 
+  all_within : Bounded (524297 * 65536) 10 (spaced l)
+  all_within k g = →within (524297 * 65536) (get_or (spaced l) k nan) (place_within k (eq-or-lt_of_le (le_of_suc-le-suc g)))
+
   pub spread_within : Bounded (524297 * 65536) 10 (spread l)
-  spread_within k g = →within (524297 * 65536) (get_or (spread l) k nan) (spread_at k (eq-or-lt_of_le (le_of_suc-le-suc g)))
+  unfolding spread
+  spread_within = all_within
 
 -- ---- the sums: each product is within 2 ^ 33
 module _ (history residual : List Float) (bytes : List ℕ) (mode : ℕ) (s : SoundBytes bytes) (m : mode < 2) (p : Bounded 131072 30 history) (q : Bounded 131072 10 residual) where
@@ -76,19 +80,19 @@ module _ (history residual : List Float) (bytes : List ℕ) (mode : ℕ) (s : So
 
   -- so any list of the same sums that rises by total_cmp is spread to the prediction
   pub predict_any : (l : List Float) → Same l (sums history residual bytes mode) → Rising total_le l → spread l ≡ predict history residual bytes mode
-  unfolding predict
-  predict_any l k r = any_sort (sums history residual bytes mode) l sums_finite k r
+  unfolding predict spread
+  predict_any l k r = sorted_same (sums history residual bytes mode) l sums_finite k r
 
   -- as the sums sorted by it are
   pub predict_total : spread (sort total_less (sums history residual bytes mode)) ≡ predict history residual bytes mode
-  unfolding predict
-  predict_total = total_sort (sums history residual bytes mode) sums_finite
+  unfolding predict spread
+  predict_total = total_same (sums history residual bytes mode) sums_finite
 
   -- and each of the ten frequencies is finite: within 524,297 * 65,536, some 3.4 * 10 ^ 10
   pub predict_within : Bounded (524297 * 65536) 10 (predict history residual bytes mode)
-  unfolding predict sums
+  unfolding predict sums spread
   predict_within =
-      spread_within (sort lt (sums history residual bytes mode)) (λ k h.
+      all_within (sort lt (sums history residual bytes mode)) (λ k h.
       let n = same_length (sort lt (sums history residual bytes mode)) (sums history residual bytes mode) (sort_same lt (sums history residual bytes mode)) ∙ length_table (sum_at history residual bytes mode) 10 in
       each_at (within (524288 * 65536)) (sort lt (sums history residual bytes mode)) nan
       (sort_each lt (within (524288 * 65536)) (sums history residual bytes mode)

@@ -99,15 +99,22 @@ spaced_same k l h (suc i) =
     let a = gap_above (spaced_at k i) r.1 in
     (larger_same (get_or k (suc i) nan) (get_or l (suc i) nan) p (h (suc i)) a ∙ ap (λ (z : Float). larger (get_or l (suc i) nan) (add binary32 z GAP)) r.0, larger_above (get_or k (suc i) nan) p a)
 
-spread_same : (k l : List Float) → ((i : ℕ) → Alike (get_or k i nan) (get_or l i nan)) → spread k ≡ spread l
-unfolding spread
-spread_same k l h =
+-- the gaps, and then the ceiling
+abbrev pub spaced : List Float → List Float
+spaced l = set (table (spaced_at l) 10) 9 (smaller (spaced_at l 9) CEILING)
+
+all_same : (k l : List Float) → ((i : ℕ) → Alike (get_or k i nan) (get_or l i nan)) → spaced k ≡ spaced l
+all_same k l h =
     ap (λ (z : Float). set (table (spaced_at k) 10) 9 (smaller z CEILING)) (spaced_same k l h 9).0
     ∙ ap (λ (t : List Float). set t 9 (smaller (spaced_at l 9) CEILING)) (table_same (spaced_at k) (spaced_at l) 10 (λ i p. (spaced_same k l h i).0))
 
+pub sorted_same : (l s : List Float) → Each finite32 l → Same s l → Rising total_le s → spaced s ≡ spaced (sort lt l)
+sorted_same l s h k r = all_same s (sort lt l) (alike_at s (sort lt l) (each_same finite32 s l k h) (sort_each lt finite32 l h) (same_numbers l s h k r))
+
 -- whatever holds l's floats, each as often, and rises by total_cmp is spread to what `sort lt l` is
 pub any_sort : (l s : List Float) → Each finite32 l → Same s l → Rising total_le s → spread s ≡ spread (sort lt l)
-any_sort l s h k r = spread_same s (sort lt l) (alike_at s (sort lt l) (each_same finite32 s l k h) (sort_each lt finite32 l h) (same_numbers l s h k r))
+unfolding spread
+any_sort l s h k r = sorted_same l s h k r
 
 -- ---- as here by insertion
 total_yes : (x y : Float) → total_less x y ≡ true → total_le x y ≡ true
@@ -128,5 +135,9 @@ total_no x y = go (total_key x) (total_key y)
     go (negsuc a) (pos b) h = absurd (true≢false h)
     go (negsuc a) (negsuc b) h = le-leb a b (ltb-false b a h)
 
+pub total_same : (l : List Float) → Each finite32 l → spaced (sort total_less l) ≡ spaced (sort lt l)
+total_same l h = sorted_same l (sort total_less l) h (sort_same total_less l) (sort_rises total_less finite32 total_le total_yes (λ x y p q k. total_no x y k) l h)
+
 pub total_sort : (l : List Float) → Each finite32 l → spread (sort total_less l) ≡ spread (sort lt l)
-total_sort l h = any_sort l (sort total_less l) h (sort_same total_less l) (sort_rises total_less finite32 total_le total_yes (λ x y p q k. total_no x y k) l h)
+unfolding spread
+total_sort l h = total_same l h

@@ -1,4 +1,6 @@
 // The line spectral frequencies of a half frame: the residual, the history of three residuals that they are predicted from, and how they are quantised.
+#![tactic(auto)]
+
 ghost use Rattle.std.specs.Prelude.{◌≡◌, ◌<◌, cond, length};
 ghost use Rattle.std.specs.Int.Signed.{le_z};
 ghost use Rattle.tables.specs.Places.{WORDS, BYTES};

@@ -1,4 +1,6 @@
 // The decoder's state, handed in and handed back whole: its rule, where a call starts, and a frame that was missed.
+#![tactic(auto)]
+
 ghost use Rattle.std.specs.Prelude.{◌≡◌, ◌&&◌, leb, length};
 ghost use Rattle.sequence.specs.All.{all};
 ghost use Rattle.floats.specs.Floats.{within};
@@ -9,7 +11,7 @@ ghost use Rattle.state.specs.State.{all_zero, marked, obeys, fault, lsp_mean, in
 use tables::Fault;
 
 // All that a decoder carries from frame to frame: what the halves carry on, the residuals, the gain history, the mark, and how sure its excitation is.
-#[derive(Drop)]
+#[derive(Clone, Copy)]
 pub struct State {
     pub lsp: [i16; 10],
     pub excitation: [i16; 154],

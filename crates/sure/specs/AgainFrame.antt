@@ -22,15 +22,6 @@ use Rattle.sure.specs.Sure.{holds, through, after}
 use Rattle.sure.specs.Again.{Agreed}
 use Rattle.sure.specs.AgainHalf.{after_first, after_both, HalfAgain, first_long, second_long, left_long, half_again}
 
--- where it holds the number is 2
-held_at : (w : ℕ) → holds w ≡ 1 → 2 ≤ w
-unfolding holds
-held_at w = by (ltb w 2) refl
-  where
-    by : (t : Bool) → ltb w 2 ≡ t → ◌≡◌ {A = ℕ} (cond t 0 1) 1 → 2 ≤ w
-    by true e h = absurd (omega arith)
-    by false e h = ltb-false w 2 e
-
 -- the excitation of two halves is that of their four subframes
 abbrev Long : Half → Type 0
 Long v = (length v.first.mixed_excitation ≡ 80) × (length v.second.mixed_excitation ≡ 80)
@@ -125,13 +116,14 @@ module _ (words : List ℤ) (bytes : List ℕ) (f : FrameParams) (i : InWidths f
     abbrev py' : Long y'
     py' = (first_long words bytes lsp' f.second y.core ly, second_long words bytes lsp' f.second y.core ly)
 
-    in_parts : (n : ℕ) → n < 4 → get_or (through w (frame c r).pitch_gains).subframes n 0 ≡ 1 → Spec.part (frame c r).excitation (80 * n) ≡ Spec.part (frame d r).excitation (80 * n)
+    -- where it holds the number is 2
+    in_parts : ((u : ℕ) → holds u ≡ 1 → 2 ≤ u) → (n : ℕ) → n < 4 → get_or (through w (frame c r).pitch_gains).subframes n 0 ≡ 1 → Spec.part (frame c r).excitation (80 * n) ≡ Spec.part (frame d r).excitation (80 * n)
     unfolding Frame.decode Frame.report Frame.halves Frame.half Frame.pitch_gains_of through
-    in_parts zero h e = part_0 x x' px px' ∙ first_half.first (held_at (after_first w x) e) ∙ sym (part_0 y y' py py')
-    in_parts (suc zero) h e = part_80 x x' px px' ∙ first_half.second (held_at (after_both w x) e) ∙ sym (part_80 y y' py py')
-    in_parts (suc (suc zero)) h e = part_160 x x' px px' ∙ second_half.first (held_at (after_first (after_both w x) x') e) ∙ sym (part_160 y y' py py')
-    in_parts (suc (suc (suc zero))) h e = part_240 x x' px px' ∙ second_half.second (held_at (after_both (after_both w x) x') e) ∙ sym (part_240 y y' py py')
-    in_parts (suc (suc (suc (suc n)))) h e = absurd (omega arith)
+    in_parts held zero h e = part_0 x x' px px' ∙ first_half.first (held (after_first w x) e) ∙ sym (part_0 y y' py py')
+    in_parts held (suc zero) h e = part_80 x x' px px' ∙ first_half.second (held (after_both w x) e) ∙ sym (part_80 y y' py py')
+    in_parts held (suc (suc zero)) h e = part_160 x x' px px' ∙ second_half.first (held (after_first (after_both w x) x') e) ∙ sym (part_160 y y' py py')
+    in_parts held (suc (suc (suc zero))) h e = part_240 x x' px px' ∙ second_half.second (held (after_both (after_both w x) x') e) ∙ sym (part_240 y y' py py')
+    in_parts held (suc (suc (suc (suc n)))) h e = absurd (omega arith)
 
     on_leaving : Agreed (through w (frame c r).pitch_gains).left 154 (frame c r).core.excitation (frame d r).core.excitation
     unfolding Frame.decode Frame.report Frame.halves Frame.half Frame.pitch_gains_of through
@@ -139,7 +131,15 @@ module _ (words : List ℤ) (bytes : List ℕ) (f : FrameParams) (i : InWidths f
 
   -- the theorem
   pub frame_again : (c d : Core) (r q : List Float) → AfterTwo c d r q → length c.excitation ≡ 154 → length d.excitation ≡ 154 → (w : ℕ) → Agreed w 154 c.excitation d.excitation → FrameAgain w (frame c r) (frame d q)
-  frame_again c d r q t l m w a = rw t.residuals (record { same = in_parts c d q t.alike l m w a; left = on_leaving c d q t.alike l m w a })
+  unfolding holds
+  frame_again c d r q t l m w a = rw t.residuals (record { same = in_parts c d q t.alike l m w a held_at; left = on_leaving c d q t.alike l m w a })
+    where
+      held_at : (w : ℕ) → holds w ≡ 1 → 2 ≤ w
+      held_at w = by (ltb w 2) refl
+        where
+          by : (t : Bool) → ltb w 2 ≡ t → ◌≡◌ {A = ℕ} (cond t 0 1) 1 → 2 ≤ w
+          by true e h = absurd (omega arith)
+          by false e h = ltb-false w 2 e
 
 -- ---- as a frame is answered, which came with a mark: with one below 2 nothing is asked, for it holds nowhere
 module _ (m w : ℕ) (x y : Decoded) (a : 2 ≤ m → FrameAgain w x y) where

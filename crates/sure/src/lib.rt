@@ -1,9 +1,11 @@
 // When excitation is sure again: a number from subframe to subframe, 2 while the excitation is the sender's.
+#![tactic(auto)]
+
 ghost use Rattle.std.specs.Prelude.{◌≡◌};
 ghost use Rattle.sure.specs.Sure as Spec;
 
 // What a frame leaves of the number, and for each subframe whether it holds there, 0 or 1.
-#[derive(Drop)]
+#[derive(Clone, Copy)]
 pub struct Sure {
     pub left: u8,
     pub subframes: [u8; 4],

@@ -1,1 +1,2 @@
 // No function: specs/ has the definitions of the synthesis filter.
+#![tactic(auto)]

@@ -1,4 +1,6 @@
 // The synthesis filter: each sample from the excitation and the ten samples before it.
+#![tactic(auto)]
+
 ghost use Rattle.std.specs.Prelude.{◌≡◌, ℕ, ◌≤◌, pos, length, get_or, drop};
 ghost use Rattle.sequence.specs.Count.{count};
 ghost use Rattle.sequence.specs.Table.{table};

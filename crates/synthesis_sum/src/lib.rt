@@ -1,4 +1,6 @@
 // The synthesis filter's sum for one output: the excitation and the ten samples before it.
+#![tactic(auto)]
+
 ghost use Rattle.std.specs.Prelude.{◌≡◌, ℕ, ◌+◌, length, pos, ◌+ℤ◌, ◌*ℤ◌};
 ghost use Rattle.sequence.specs.Total.{total};
 ghost use Rattle.fixed.specs.Fixed as Fixed;

@@ -1,11 +1,13 @@
 // The table file: its words and its refusal number, and the line that tells of a refusal.
+#![tactic(auto)]
+
 ghost use Rattle.std.specs.Prelude.{◌≡◌, ◌+◌, ◌*◌, ◌≤◌, ◌<◌, length};
 ghost use Rattle.tables.specs.Places.{WORDS};
 ghost use Rattle.stream.specs.Room.{over};
-ghost use Rattle.hex.specs.Text as Text;
+ghost use Rattle.hex_lines.specs.Text as Text;
 ghost use Rattle.table_file.specs.File as File;
 
-use hex::digit;
+use hex_lines::digit;
 use tables::Fault;
 
 // The one line of a refused table file, with the rule and the place that are named. The answer is its length.

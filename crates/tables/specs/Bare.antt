@@ -1,17 +1,17 @@
 -- Document 01's bare set: all words 0 but limit 1, pulses 2, ALT entries 1; all bytes 0. It is accepted.
-use Rattle.std.specs.Prelude.{ℕ, ◌+◌, ◌*◌, ◌<◌, ◌≡◌, refl, List, ◌++◌, length, get_or, set, replicate, T, ℤ, pos}
-use Rattle.std.proofs.Common.{ap, ◌∙◌, inl, arith, get_or-append-add}
+use Rattle.std.specs.Prelude.{ℕ, ◌+◌, ◌*◌, ◌<◌, ◌≡◌, refl, List, ◌++◌, length, get_or, set, replicate, T, false, ℤ, pos}
+use Rattle.std.proofs.Common.{ap, ◌∙◌, inl, arith, eq-eqb, get_or-append-add}
 use Rattle.std.proofs.lemmas.List.{length-replicate, get_or-replicate}
 use Rattle.std.proofs.Math.ListN.{get_or-append}
 use Rattle.std.specs.Int.Signed.{le_z_yes}
 use Rattle.std.specs.Float.Ieee.{of_bits}
 use Rattle.std.specs.Float.{binary32}
 use Rattle.floats.specs.Floats.{bits_at, within}
-use Rattle.sequence.specs.First.{first_from}
+use Rattle.sequence.specs.First.{some, first_from}
 use Rattle.tables.specs.Places.{WORDS, BYTES}
-use Rattle.tables.specs.Tables.{unsigned, limit_bad, bad, count, place, broken, report, first_fault, check}
-use Rattle.tables.specs.Rules.{Obeys, accepted}
-use Rattle.tables.specs.Sound.{Sound, sound}
+use Rattle.tables.specs.Tables.{unsigned, limit_bad, float_bad, bad, count, place, broken, report, first_fault, check}
+use Rattle.tables.specs.Rules.{Obeys, limits, floats, offends, offended, none_offended}
+use Rattle.tables.specs.Sound.{Sound}
 
 -- the words from the ALT entries, the shape selectors, the pulses, the bases and the limit on
 unfoldable pub from_entries : List ℤ
@@ -114,10 +114,16 @@ bare_obeys = record {
 }
 
 pub bare_accepted : check bare_words bare_bytes ≡ 0
-bare_accepted = accepted bare_words bare_bytes words_long bytes_long bare_obeys
+unfolding check limits floats offends offended limit_bad float_bad bad broken
+bare_accepted =
+    let n : some (broken bare_words bare_bytes) 7 ≡ false = none_offended bare_words bare_bytes bare_obeys in
+    rw (eq-eqb (length bare_words) WORDS words_long, eq-eqb (length bare_bytes) BYTES bytes_long, n)
 
 pub bare_sound : Sound bare_words bare_bytes
-bare_sound = sound bare_words bare_bytes bare_accepted
+bare_sound = record {
+  of_words = record { words_long = words_long; rules = bare_obeys.of_words };
+  of_bytes = record { bytes_long = bytes_long; floats_within = bare_obeys.floats_within };
+}
 
 -- with base 1 at 5 and base 2 at 4, the fault is the falling base's
 falls : first_fault (set (set bare_words 188 (pos 5)) 189 (pos 4)) bare_bytes ≡ record { rule = 1; place = 189 }

@@ -1,6 +1,6 @@
 -- The set rules in document 01's words, and that the tests of Tables decide them.
 use Prim.Native.Nat.{ℕ, zero, suc, ◌+◌, ◌-◌, ◌*◌, ◌≤◌, ◌<◌}
-use Rattle.std.specs.Prelude.{◌≡◌, List, Bool, true, false, ◌&&◌, cond, ◌⊎◌, length, T, eqb, leb, ℤ, pos, negsuc, ◌≤ℤ◌}
+use Rattle.std.specs.Prelude.{◌≡◌, List, [], ◌∷◌, Bool, true, false, ◌&&◌, cond, ◌⊎◌, length, get_or, T, eqb, leb, ltb, ℤ, pos, negsuc, ◌≤ℤ◌}
 use Rattle.std.proofs.Math.Path.{refl, ap}
 use Rattle.std.proofs.Common.{sym, true≢false, inl, inr}
 use Rattle.std.proofs.Math.Bool.{not}
@@ -10,8 +10,8 @@ use borrow.Author.Tests.{leb-true, le-leb, ltb-false, le-ltb, eqb-true, eqb-fals
 use Rattle.floats.specs.Floats.{float_at, within}
 use Rattle.sequence.specs.All.{is_true, holds, and_left, and_right}
 use Rattle.sequence.specs.First.{some, some_at, some_all}
-use Rattle.tables.specs.Places.{WORDS, BYTES}
-use Rattle.tables.specs.Tables.{limit, base, pulses, selector, position, entry, between, limit_bad, pulses_bad, selector_bad, position_bad, entry_bad, float_bad, count, bad, broken, check}
+use Rattle.tables.specs.Places.{WORDS, BYTES, FCB_INDEX_LIMIT}
+use Rattle.tables.specs.Tables.{unsigned_word, limit, base, pulses, selector, position, entry, between, limit_bad, pulses_bad, selector_bad, position_bad, entry_bad, float_bad, count, bad, broken, check}
 
 -- rules 1 to 5, which are of the words
 pub record WordsObey (words : List ℤ) : Type 0 where
@@ -92,44 +92,60 @@ float→ x e = holds (not-false x e)
 
 -- ---- the rules of a list of words and a list of bytes
 module _ (words : List ℤ) (bytes : List ℕ) where
-  -- no place of any rule offends
-  all_fine : some (broken words bytes) 7 ≡ false → (r k : ℕ) → r < 7 → k < count r → bad words bytes r k ≡ false
-  unfolding broken
-  all_fine e r k h q = some_at (bad words bytes r) (count r) k (some_at (broken words bytes) 7 r e h) q
+  -- the tests of rules 1 and 6, written out
+  unfoldable pub limits : ℕ → Bool
+  limits k =
+      cond (eqb k 0) (eqb (unsigned_word words (FCB_INDEX_LIMIT + k)) 0)
+      (cond (eqb k 1) (not (eqb (unsigned_word words (FCB_INDEX_LIMIT + k)) 0))
+      (ltb (unsigned_word words (FCB_INDEX_LIMIT + k)) (unsigned_word words (FCB_INDEX_LIMIT + k - 1))))
 
-  rising : (k : ℕ) → limit_bad words (k + 2) ≡ false → base words k ≤ base words (k + 1)
-  unfolding limit_bad
+  unfoldable pub floats : ℕ → Bool
+  floats k = not (within 65536 (float_at bytes (4 * k)))
+
+  -- each test, and whether one offends
+  unfoldable pub offends : ℕ → ℕ → Bool
+  offends r k = get_or (false ∷ limits k ∷ pulses_bad words k ∷ selector_bad words k ∷ position_bad words k ∷ entry_bad words k ∷ floats k ∷ []) r false
+
+  unfoldable pub offended : ℕ → Bool
+  offended r = some (offends r) (count r)
+
+  -- no place of any rule offends
+  all_fine : some offended 7 ≡ false → (r k : ℕ) → r < 7 → k < count r → offends r k ≡ false
+  unfolding offended
+  all_fine e r k h q = some_at (offends r) (count r) k (some_at offended 7 r e h) q
+
+  rising : (k : ℕ) → limits (k + 2) ≡ false → base words k ≤ base words (k + 1)
+  unfolding limits
   rising k e =
       let a : 186 + (k + 2) ≡ 187 + (k + 1) = omega arith in
       let b : 186 + (k + 2) - 1 ≡ 187 + k = omega arith in
       ltb-false (base words (k + 1)) (base words k)
       (rw (← a, ← b) (rw (ne_eqb (k + 2) 0 (λ z. omega arith), ne_eqb (k + 2) 1 (λ z. omega arith)) at e))
 
-  is_rising : (k : ℕ) → base words k ≤ base words (k + 1) → limit_bad words (k + 2) ≡ false
-  unfolding limit_bad
+  is_rising : (k : ℕ) → base words k ≤ base words (k + 1) → limits (k + 2) ≡ false
+  unfolding limits
   is_rising k h =
       let a : 186 + (k + 2) ≡ 187 + (k + 1) = omega arith in
       let b : 186 + (k + 2) - 1 ≡ 187 + k = omega arith in
       rw (ne_eqb (k + 2) 0 (λ z. omega arith), ne_eqb (k + 2) 1 (λ z. omega arith), b, a) (le-ltb (base words (k + 1)) (base words k) h)
 
-  positive : limit_bad words 0 ≡ false → 1 ≤ limit words
-  unfolding limit_bad
+  positive : limits 0 ≡ false → 1 ≤ limit words
+  unfolding limits
   positive e = let h = eqb-false (limit words) 0 e in omega arith
 
-  zero_base : limit_bad words 1 ≡ false → base words 0 ≡ 0
-  unfolding limit_bad
+  zero_base : limits 1 ≡ false → base words 0 ≡ 0
+  unfolding limits
   zero_base e = eqb-true (base words 0) 0 (not-false (eqb (base words 0) 0) e)
 
-  limit_fine : WordsObey words → (k : ℕ) → k < 7 → limit_bad words k ≡ false
-  unfolding limit_bad
+  limit_fine : WordsObey words → (k : ℕ) → k < 7 → limits k ≡ false
+  unfolding limits
   limit_fine o zero h = let p = o.limit_positive in ne_eqb (limit words) 0 (λ z. omega arith)
   limit_fine o (suc zero) h = ap not (eq-eqb (base words 0) 0 o.base_zero)
   limit_fine o (suc (suc k)) h = let e : suc (suc k) ≡ k + 2 = omega arith in rw e (is_rising k (o.bases_rise k (omega arith)))
 
-  -- what the tests say
-  pub obeys : some (broken words bytes) 7 ≡ false → Obeys words bytes
-  unfolding count bad pulses_bad selector_bad position_bad entry_bad float_bad sided
-  obeys e = record {
+  pub obeying : some offended 7 ≡ false → Obeys words bytes
+  unfolding count offends pulses_bad selector_bad position_bad entry_bad floats sided
+  obeying e = record {
     of_words = record {
       limit_positive = positive (all_fine e 1 0 (omega arith) (omega arith));
       base_zero = zero_base (all_fine e 1 1 (omega arith) (omega arith));
@@ -142,9 +158,8 @@ module _ (words : List ℤ) (bytes : List ℕ) where
     floats_within = λ k h. float→ (within 65536 (float_at bytes (4 * k))) (all_fine e 6 k (omega arith) h);
   }
 
-  -- and how they are passed
-  none_bad : Obeys words bytes → (r k : ℕ) → k < count r → bad words bytes r k ≡ false
-  unfolding count bad pulses_bad selector_bad position_bad entry_bad float_bad sided
+  none_bad : Obeys words bytes → (r k : ℕ) → k < count r → offends r k ≡ false
+  unfolding count offends pulses_bad selector_bad position_bad entry_bad floats sided
   none_bad o zero k h = refl
   none_bad o (suc zero) k h = limit_fine o.of_words k h
   none_bad o (suc (suc zero)) k h = ap not (is_two_or_three (pulses words k) (o.of_words.pulses_are k h))
@@ -154,9 +169,19 @@ module _ (words : List ℤ) (bytes : List ℕ) where
   none_bad o (suc (suc (suc (suc (suc (suc zero)))))) k h = ap not (is_true (within 65536 (float_at bytes (4 * k))) (o.floats_within k h))
   none_bad o (suc (suc (suc (suc (suc (suc (suc r))))))) k h = refl
 
+  pub none_offended : Obeys words bytes → some offended 7 ≡ false
+  unfolding offended
+  none_offended o = some_all offended 7 (λ r h. some_all (offends r) (count r) (λ k q. none_bad o r k q))
+
+  -- what the tests say
+  pub obeys : some (broken words bytes) 7 ≡ false → Obeys words bytes
+  unfolding offended offends limits floats broken bad limit_bad float_bad
+  obeys e = obeying e
+
+  -- and how they are passed
   pub not_broken : Obeys words bytes → some (broken words bytes) 7 ≡ false
-  unfolding broken
-  not_broken o = some_all (broken words bytes) 7 (λ r h. some_all (bad words bytes r) (count r) (λ k q. none_bad o r k q))
+  unfolding offended offends limits floats broken bad limit_bad float_bad
+  not_broken o = none_offended o
 
   -- ---- the check
   -- its three tests
@@ -172,8 +197,11 @@ module _ (words : List ℤ) (bytes : List ℕ) where
 
   -- a set is accepted exactly when its lengths are right and it obeys the rules
   pub accepted : length words ≡ WORDS → length bytes ≡ BYTES → Obeys words bytes → check words bytes ≡ 0
-  unfolding check
-  accepted w b o = rw (eq-eqb (length words) WORDS w, eq-eqb (length bytes) BYTES b, not_broken o)
+  unfolding check offended offends limits floats broken bad limit_bad float_bad
+  accepted w b o =
+      let n : some (broken words bytes) 7 ≡ false = none_offended o in
+      rw (eq-eqb (length words) WORDS w, eq-eqb (length bytes) BYTES b, n)
 
   pub accepted_only : check words bytes ≡ 0 → (length words ≡ WORDS) × (length bytes ≡ BYTES) × Obeys words bytes
-  accepted_only e = let t = tests e in (eqb-true (length words) WORDS t.0, eqb-true (length bytes) BYTES t.1, obeys t.2)
+  unfolding offended offends limits floats broken bad limit_bad float_bad
+  accepted_only e = let t = tests e in (eqb-true (length words) WORDS t.0, eqb-true (length bytes) BYTES t.1, obeying t.2)

@@ -1,10 +1,10 @@
 -- An accepted set, as the one premise that what is built on the tables carries, and what it gives.
 use Rattle.std.specs.Prelude.{ℕ, ◌+◌, ◌*◌, ◌<◌, ◌≡◌, List, length, T, ℤ}
-use Rattle.std.proofs.Common.{arith}
+use Rattle.std.proofs.Common.{arith, eqb-true}
 use Rattle.floats.specs.Floats.{float_at, within}
-use Rattle.tables.specs.Places.{BYTES}
-use Rattle.tables.specs.Tables.{log_gain, gain_bias, low, high, ma, check}
-use Rattle.tables.specs.Rules.{BytesObey, accepted_only}
+use Rattle.tables.specs.Places.{WORDS, BYTES}
+use Rattle.tables.specs.Tables.{log_gain, gain_bias, low, high, ma, limit_bad, float_bad, bad, broken, check}
+use Rattle.tables.specs.Rules.{BytesObey, limits, floats, offends, offended, obeying, tests}
 use Rattle.tables.specs.SoundWords.{SoundWords}
 
 -- the bytes of an accepted set
@@ -18,9 +18,14 @@ pub record Sound (words : List ℤ) (bytes : List ℕ) : Type 0 where
   pub of_bytes : SoundBytes bytes
 
 pub sound : (words : List ℤ) (bytes : List ℕ) → check words bytes ≡ 0 → Sound words bytes
+unfolding limits floats offends offended limit_bad float_bad bad broken
 sound words bytes e =
-    let a = accepted_only words bytes e in
-    record { of_words = record { words_long = a.0; rules = a.2.of_words }; of_bytes = record { bytes_long = a.1; floats_within = a.2.floats_within } }
+    let t = tests words bytes e in
+    let o = obeying words bytes t.2 in
+    record {
+      of_words = record { words_long = eqb-true (length words) WORDS t.0; rules = o.of_words };
+      of_bytes = record { bytes_long = eqb-true (length bytes) BYTES t.1; floats_within = o.floats_within };
+    }
 
 -- ---- floats: each that config.rs reads is within 65,536, hence finite and no NaN (floats.specs.Within)
 module _ {bytes : List ℕ} (s : SoundBytes bytes) where

@@ -1,4 +1,6 @@
 // The lent table set: places by name, and readers.
+#![tactic(auto)]
+
 ghost use Rattle.std.specs.Prelude.{◌≡◌, ◌+◌, ◌*◌, ◌<◌, length};
 ghost use Rattle.tables.specs.Places as Places;
 ghost use Rattle.tables.specs.Tables as Tables;

@@ -1,5 +1,7 @@
 // The counts of the term report: how many frames were accepted and refused, and how the subframes of the accepted ones fall on classes, lags, gain indexes and
 // code gains, and how many of their samples were clipped. Where a lag is counted, the ends of the code gains, the sums of what was clipped, and the limit.
+#![tactic(auto)]
+
 ghost use Rattle.std.specs.Prelude.{◌≡◌};
 ghost use Rattle.tally.specs.Figures as Figures;
 ghost use Rattle.tally.specs.Carried as Carried;
@@ -10,7 +12,7 @@ use half::Clipped;
 const LIMIT: u64 = 4294967295;
 
 // Of the subframes of accepted frames: how many there are, how many of each class from 0, lag from 19 and gain index from 0, and between what their code gains lie.
-#[derive(Drop)]
+#[derive(Clone, Copy)]
 pub struct Subframes {
     pub n: u64,
     pub classes: [u64; 6],
@@ -21,7 +23,7 @@ pub struct Subframes {
 }
 
 // Of the same subframes: at how many samples saturation changed a value, in each of four steps.
-#[derive(Drop)]
+#[derive(Clone, Copy)]
 pub struct Clippings {
     pub prediction: u64,
     pub mixing: u64,
@@ -30,7 +32,7 @@ pub struct Clippings {
 }
 
 // Of the lines: how many there are, and how many were accepted and refused with each number.
-#[derive(Drop)]
+#[derive(Clone, Copy)]
 pub struct Tally {
     pub lines: u64,
     pub accepted: u64,

@@ -1,17 +1,19 @@
 // The term report: many recordings, one after the other, each ended by a line `=`. Each line is counted as it ends, and the report is written at the end.
+#![tactic(auto)]
+
 ghost use Rattle.std.specs.Prelude.{◌≡◌, ◌≤◌, length};
 ghost use Rattle.io.specs.Counts.{IsPrefixLen};
 ghost use Rattle.stream.specs.Room.{over};
 ghost use Rattle.stream.specs.Machine.{fed_all};
 ghost use Rattle.calls.specs.Run.{heard};
-ghost use Rattle.hex.specs.Held as Held;
+ghost use Rattle.hex_lines.specs.Held as Held;
 ghost use Rattle.heard.specs.Start as Start;
 ghost use Rattle.table_file.specs.File as File;
 ghost use Rattle.tally.specs.Figures as Figures;
 ghost use Rattle.term_steps.specs.Steps as Steps;
 ghost use Rattle.term_steps.specs.Feed as Feed;
 
-use hex::Line;
+use hex_lines::Line;
 use state::State;
 use tally::Tally;
 use term_steps::{Place, Recorder, Started};
@@ -29,9 +31,9 @@ fn hear(words: &[i16], bytes: &[u8], state: State, payload: [u8; 20], tally: Tal
 fn call(words: &[i16], bytes: &[u8], state: State, line: Line, tally: Tally) -> Place
     ensures { result ≡ Steps.line_called words.now bytes.now state tally (Held.held_line line) }
 {
-    if hex::held_frame(line) {
+    if hex_lines::held_frame(line) {
         let text = line.text;
-        return hear(words, bytes, state, hex::payload(text), tally);
+        return hear(words, bytes, state, hex_lines::payload(text), tally);
     }
     let missed = state::missed_frame(state);
     let next = missed.state;
@@ -61,7 +63,7 @@ fn end_line(
     if tally::full(tally) {
         return place;
     }
-    if hex::is_only(line, b'=') {
+    if hex_lines::is_only(line, b'=') {
         return outcomes::ended(words, bytes, place);
     }
     if heard::is_opening(first, line) {
@@ -113,9 +115,9 @@ fn take_in(words: &[i16], bytes: &[u8], recorder: Recorder, chunk: &[u8]) -> Rec
             first = place.first;
             state = place.state;
             tally = place.tally;
-            line = hex::empty();
+            line = hex_lines::empty();
         } else {
-            line = hex::push(line, b);
+            line = hex_lines::push(line, b);
         }
     }
     Recorder {

@@ -15,7 +15,8 @@ use Rattle.tally.specs.declared.Tally.{Tally}
 use Rattle.tally.specs.Figures.{Outcome, how_many, largest, smallest, code_gain_of, spread, subframes_of, clipped_of, tally}
 use Rattle.tally.specs.Added.{BothClippings, many_append, largest_append, smallest_append, clippings_append, subframes_append, clipped_append}
 use Rattle.term_steps.specs.Term.{is_end, recordings, outcome, outcomes_from, outcomes_of, joined, outcomes, tally_of}
-use Rattle.term_steps.specs.Steps.{walk, all_walked}
+use Rattle.term_steps.specs.Steps.{walk}
+use Rattle.term_steps.proofs.Steps.{all_walked}
 
 -- counts of both, place by place
 abbrev pub Added : ℕ → List ℕ → List ℕ → List ℕ → Type 0

@@ -25,10 +25,11 @@ use Rattle.observation.specs.Frame as Frame
 use Rattle.state.specs.declared.State.{State}
 use Rattle.state.specs.State as State
 use Rattle.calls.specs.Celp as Celp
-use Rattle.calls.specs.Relied.{started_obeying}
-use Rattle.calls.specs.StateRule.{Obeying, run_obeying}
+use Rattle.calls.proofs.Relied.{started_obeying}
+use Rattle.calls.specs.StateRule.{Obeying}
+use Rattle.calls.proofs.StateRule.{run_obeying}
 use Rattle.calls.specs.Run.{heard, missed, run}
-use Rattle.hex.specs.Text as Text
+use Rattle.hex_lines.specs.Text as Text
 use Rattle.heard.specs.Recording.{event, line_step, is_start, opening}
 use Rattle.tally.specs.Figures.{Outcome, those, how_many, class, gain_index_of, lag_of, subframes_of, answered_with}
 use Rattle.term_steps.specs.Term.{recordings, answered, outcome, outcomes_from, outcomes_of, joined, outcomes}

@@ -12,11 +12,12 @@ use Rattle.spectral.specs.Kept.{Words16}
 use Rattle.observation.specs.declared.Subframe.{Subframe}
 use Rattle.state.specs.declared.State.{State}
 use Rattle.state.specs.State.{reset, cold_start}
-use Rattle.hex.specs.Text.{is_only}
+use Rattle.hex_lines.specs.Text.{is_only}
 use Rattle.heard.specs.Recording.{event, line_step, is_start}
 use Rattle.tally.specs.Figures.{how_many, class, gain_index_of, spread, tally}
 use Rattle.term_steps.specs.Term.{is_end, outcome, outcomes, tally_of}
-use Rattle.term_steps.specs.Steps.{walk, all_walked}
+use Rattle.term_steps.specs.Steps.{walk}
+use Rattle.term_steps.proofs.Steps.{all_walked}
 use Rattle.term_laws.specs.Sums.{sum, in_range, counts_sum}
 use Rattle.term_laws.specs.Outcomes.{placed, lag_in, outcomes_proper, numbers_sum, four_each, all_placed}
 

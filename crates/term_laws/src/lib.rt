@@ -1,1 +1,2 @@
 // No function: what holds of the term report's figures.
+#![tactic(auto)]

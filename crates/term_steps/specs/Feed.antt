@@ -1,9 +1,9 @@
 -- The recorder takes its input a byte at a time and carries the tally on. Its report is the program's text.
-use Prim.Native.Nat.{ℕ, zero, suc, ◌<◌, min}
+use Prim.Native.Nat.{ℕ, suc, ◌<◌, min}
 use Rattle.std.specs.Prelude.{◌≡◌, Bool, not, ◌&&◌, eqb, ltb, ℤ, length}
 use Rattle.std.proofs.Math.Path.{refl, sym, ap}
 use Rattle.std.proofs.Common.{◌∙◌, arith}
-use mathlib.Core.List.{List, [], ◌∷◌, ◌++◌, append-nil}
+use mathlib.Core.List.{List, [], ◌∷◌, ◌++◌}
 use Rattle.std.proofs.Math.Bool.{true, false, cond}
 use borrow.Author.Tests.{eq-eqb, ne_eqb}
 use Rattle.stream.specs.Lines.{lines}
@@ -12,21 +12,20 @@ use Rattle.stream.specs.Machine.{fed_all, fed_append, written_all}
 use Rattle.stream.specs.Reads as Reads
 use Rattle.stream.specs.Reads.{Read, input_of, answers_joined}
 use Rattle.stream.specs.Told.{after, texts, told, last, Machine, reads_told}
-use Rattle.state.specs.State.{cold_start}
-use Rattle.hex.specs.declared.Line.{Line}
-use Rattle.hex.specs.Text.{is_frame, is_only}
+use Rattle.hex_lines.specs.declared.Line.{Line}
+use Rattle.hex_lines.specs.Text.{is_frame, is_only}
 use Rattle.table_file.specs.File as File
-use Rattle.heard.specs.Recording.{event, is_start, tables_text}
+use Rattle.heard.specs.Recording.{event, is_start}
 use Rattle.heard.specs.Start as Start
-use Rattle.hex.specs.Held.{kept, push, held_line}
+use Rattle.hex_lines.specs.Held.{kept, push, held_line}
 use Rattle.tally.specs.declared.Tally.{Tally}
 use Rattle.tally.specs.Figures.{tally, full}
 use Rattle.term_text.specs.Report.{report}
 use Rattle.term_steps.specs.declared.Place.{Place}
 use Rattle.term_steps.specs.declared.Recorder.{Recorder}
 use Rattle.term_steps.specs.declared.Started.{Started}
-use Rattle.term_steps.specs.Term.{is_end, output, program}
-use Rattle.term_steps.specs.Steps.{place, line_called, line_ended, placed, full_stays, carried_all}
+use Rattle.term_steps.specs.Term.{is_end}
+use Rattle.term_steps.specs.Steps.{line_called, line_ended, placed, full_stays}
 
 abbrev pub standing : Place → Line → Recorder
 standing p l = record { first = p.first; state = p.state; line = l; tally = p.tally }
@@ -73,7 +72,7 @@ module _ (words : List ℤ) (bytes : List ℕ) where
   abbrev final : Place → List ℕ
   final p = report p.tally
 
-  abbrev at : Place → List ℕ → Recorder
+  abbrev pub at : Place → List ℕ → Recorder
   at p line = standing p (kept line)
 
   step_long : (p : Place) (line : List ℕ) → 40 < length line → placed words bytes p line ≡ placed words bytes p (zeros 41)
@@ -110,7 +109,7 @@ module _ (words : List ℤ) (bytes : List ℕ) where
   no_writing r (b ∷ bs) = no_writing (fed r b) bs
 
   -- what is reported after all reads is the report of all lines
-  report_told : (p : Place) (reads : List Read) → ending (fed_all fed (at p []) (input_of reads)) ≡ report (after (placed words bytes) p (lines (input_of reads))).tally
+  pub report_told : (p : Place) (reads : List Read) → ending (fed_all fed (at p []) (input_of reads)) ≡ report (after (placed words bytes) p (lines (input_of reads))).tally
   unfolding told
   report_told p reads =
       let j = answers_joined fed written ending (at p []) reads in
@@ -149,7 +148,7 @@ module _ (words : List ℤ) (bytes : List ℕ) where
   fed_reads r [] = r
   fed_reads r (c ∷ cs) = cond (full (fed_all fed r (Reads.bytes c)).tally) (fed_all fed r (Reads.bytes c)) (fed_reads (fed_all fed r (Reads.bytes c)) cs)
 
-  reads_fed : (r : Recorder) (reads : List Read) → ending (fed_reads r reads) ≡ ending (fed_all fed r (input_of reads))
+  pub reads_fed : (r : Recorder) (reads : List Read) → ending (fed_reads r reads) ≡ ending (fed_all fed r (input_of reads))
   unfolding fed_reads input_of fed_all
   reads_fed r [] = refl
   reads_fed r (c ∷ cs) = rw (fed_append fed r (Reads.bytes c) (input_of cs)) (by (full (fed_all fed r (Reads.bytes c)).tally) refl (reads_fed (fed_all fed r (Reads.bytes c)) cs))
@@ -175,15 +174,3 @@ module _ (file : List ℕ) where
   -- THE PROGRAM, as its calls promise it: the start's text and, where that is no refusal, the report after any reads, the last of which it may have stopped at
   unfoldable pub told_by : List Read → List ℕ
   told_by reads = Start.start_text file ++ cond (eqb (started file).number 0) (ending_by (fed_reads (File.words file) (File.bytes file) (started file).recorder reads)) []
-
-  by_number : (n : ℕ) (reads : List Read) → Start.start_text_by n file ++ cond (eqb (Start.started_by n file).number 0) (ending_by (fed_reads (File.words file) (File.bytes file) (record { first = (Start.started_by n file).recorder.first; state = (Start.started_by n file).recorder.state; line = (Start.started_by n file).recorder.line; tally = tally 0 [] }) reads)) [] ≡ output n file (input_of reads)
-  unfolding Start.start_text_by Start.started_by Start.begin output
-  by_number zero reads =
-      reads_fed (File.words file) (File.bytes file) (at (File.words file) (File.bytes file) (place true (cold_start (File.words file) (File.bytes file)).state (tally 0 [])) []) reads
-      ∙ report_told (File.words file) (File.bytes file) (place true (cold_start (File.words file) (File.bytes file)).state (tally 0 [])) reads
-      ∙ ap report (carried_all (File.words file) (File.bytes file) (lines (input_of reads)))
-  by_number (suc n) reads = rw (ne_eqb (suc n) 0 (λ e. omega arith)) (append-nil (tables_text (suc n) file))
-
-  pub program_told : (reads : List Read) → told_by reads ≡ program file (input_of reads)
-  unfolding told_by started Start.start_text Start.started program
-  program_told reads = by_number (File.check_file file) reads

@@ -8,7 +8,6 @@ use Rattle.std.proofs.Math.Bool.{true, false}
 use native.Mathlib.Omega.{arith}
 use Rattle.std.proofs.Math.ListN.{length, length-append}
 use Rattle.std.proofs.Math.Seq.{take-nil}
-use Rattle.std.proofs.Math.Nat.{zero-add}
 use borrow.Author.Tests.{leb-true, leb-false}
 use Rattle.sequence.specs.Lists as Lists
 use Rattle.half.specs.declared.Clipped.{Clipped}
@@ -19,14 +18,14 @@ use Rattle.state.specs.State.{reset, cold_start}
 use Rattle.calls.specs.Celp as Celp
 use Rattle.calls.specs.Run.{Event, heard, missed, step}
 use Rattle.stream.specs.Told.{after}
-use Rattle.heard.specs.Recording.{event, line_step, is_start, opening}
+use Rattle.heard.specs.Recording.{event, line_step, is_start}
 use Rattle.tally.specs.declared.Clippings.{Clippings}
 use Rattle.tally.specs.declared.Tally.{Tally}
 use Rattle.tally.specs.Figures.{Outcome, clippings, subframes_of, clipped_of, tally, LIMIT, full}
 use Rattle.tally.specs.Carried.{with_outcome, uncounted}
 use Rattle.tally.specs.Added.{AtMost, at_most_more, subframes_append, clipped_append, tally_more, tally_uncounted}
 use Rattle.term_steps.specs.declared.Place.{Place}
-use Rattle.term_steps.specs.Term.{is_end, recordings, answered, outcome, outcomes_from, outcomes_of, joined, outcomes, tally_of}
+use Rattle.term_steps.specs.Term.{is_end, answered, outcome}
 
 abbrev pub place : Bool → State → Tally → Place
 place first s t = record { first = first; state = s; tally = t }
@@ -41,7 +40,7 @@ four_kinds a b c d = record {
   output_le = omega (arith, a.output_le, b.output_le, c.output_le, d.output_le);
 }
 
-no_kinds : (n : ℕ) → AtMost n (clippings [])
+pub no_kinds : (n : ℕ) → AtMost n (clippings [])
 unfolding clippings Lists.tally
 no_kinds n = record { prediction_le = omega arith; mixing_le = omega arith; synthesis_le = omega arith; output_le = omega arith }
 
@@ -83,39 +82,6 @@ module _ (words : List ℤ) (bytes : List ℕ) where
       (cond (first && is_start l) (walk false (reset words bytes).state ls)
       (outcome words bytes s (event l) ∷ walk false (line_step words bytes s l) ls))
 
-  -- those of lines inside a recording, and from a recording's first on
-  abbrev Inside : List (List ℕ) → Type 0
-  Inside ls = (s : State) → outcomes_from words bytes s (recordings ls).first ++ joined words bytes (recordings ls).more ≡ walk false s ls
-
-  abbrev First : List (List ℕ) → Type 0
-  First ls = outcomes words bytes ls ≡ walk true (cold_start words bytes).state ls
-
-  module _ (l : List ℕ) (ls : List (List ℕ)) (h : Inside ls) (k : First ls) where
-    inside_more : Inside (l ∷ ls)
-    unfolding walk outcomes_from recordings outcomes joined
-    inside_more s = by (is_end l) refl
-      where
-        by : (t : Bool) → is_end l ≡ t → outcomes_from words bytes s (recordings (l ∷ ls)).first ++ joined words bytes (recordings (l ∷ ls)).more ≡ walk false s (l ∷ ls)
-        by true e = rw e k
-        by false e = rw e (ap (λ (os : List Outcome). outcome words bytes s (event l) ∷ os) (h (line_step words bytes s l)))
-
-    first_more : First (l ∷ ls)
-    unfolding walk outcomes_from recordings outcomes joined outcomes_of opening
-    first_more = by (is_end l) (is_start l) refl refl
-      where
-        by : (t u : Bool) → is_end l ≡ t → is_start l ≡ u → outcomes words bytes (l ∷ ls) ≡ walk true (cold_start words bytes).state (l ∷ ls)
-        by true u e f = rw e k
-        by false true e f = rw (e, f) (h (reset words bytes).state)
-        by false false e f = rw (e, f) (ap (λ (os : List Outcome). outcome words bytes (cold_start words bytes).state (event l) ∷ os) (h (line_step words bytes (cold_start words bytes).state l)))
-
-  walked : (ls : List (List ℕ)) → Inside ls × First ls
-  unfolding walk outcomes_from recordings outcomes joined outcomes_of opening
-  walked [] = ((λ s. refl), refl)
-  walked (l ∷ ls) = let w = walked ls in (inside_more l ls w.0 w.1, first_more l ls w.0 w.1)
-
-  pub all_walked : (ls : List (List ℕ)) → First ls
-  all_walked ls = (walked ls).1
-
   -- decode answers four subframes, so an outcome has at most as many
   pub decode_four : (s : State) (payload : List ℕ) (room : ℕ) → length (Celp.decode words bytes s payload room).subframes ≡ 4
   unfolding Celp.decode Celp.answer Celp.accepted Celp.refused Celp.decoded Frame.decode Frame.report Frame.subframes
@@ -135,7 +101,7 @@ module _ (words : List ℤ) (bytes : List ℕ) where
       by false h = omega arith
 
   -- and no sum of what is clipped in them is above 320
-  abbrev kind : List Clipped → Type 0
+  abbrev pub kind : List Clipped → Type 0
   kind cs = AtMost 320 (clippings cs)
 
   decode_clipped : (s : State) (payload : List ℕ) (room : ℕ) → kind (Celp.decode words bytes s payload room).clipped
@@ -156,10 +122,10 @@ module _ (words : List ℤ) (bytes : List ℕ) where
       by false h = no_kinds 320
 
   -- ---- THE COUNTS: carried on over any lines, they are those of the list
-  abbrev left : ℕ → List (List ℕ) → List (List ℕ)
+  abbrev pub left : ℕ → List (List ℕ) → List (List ℕ)
   left n ls = take (LIMIT - n) ls
 
-  abbrev Added : Bool → State → ℕ → List Outcome → List (List ℕ) → Type 0
+  abbrev pub Added : Bool → State → ℕ → List Outcome → List (List ℕ) → Type 0
   Added first s n os ls = (after (placed) (place first s (tally n os)) ls).tally ≡ tally (n + length (left n ls)) (os ++ walk first s (left n ls))
 
   -- what lists keep to by line n
@@ -217,14 +183,7 @@ module _ (words : List ℤ) (bytes : List ℕ) where
         let q = few s (event l) in
         rw (e, f, g, tally_more n os o (omega arith) (omega (arith, k.outcomes_kept)) (omega (arith, k.subframes_kept)) (at_most_more (clipped_of os) o.clipped k.clipped_kept (few_clipped s (event l)) (omega (arith, k.lines_kept))), then false (step words bytes s (event l)) (n + 1) (os ++ (o ∷ [])) (kept_more k p o q (few_clipped s (event l))), z, f, g, r, append_assoc)
 
-  carried : (ls : List (List ℕ)) (first : Bool) (s : State) (n : ℕ) (os : List Outcome) → Kept n os → Added first s n os ls
+  pub carried : (ls : List (List ℕ)) (first : Bool) (s : State) (n : ℕ) (os : List Outcome) → Kept n os → Added first s n os ls
   unfolding after walk
   carried [] first s n os k = rw (take-nil {A = List ℕ} (LIMIT - n), append-nil, add-zero)
   carried (l ∷ ls) first s n os k = more ls (carried ls) first s n os k l (full (tally n os)) (is_end l) (first && is_start l) refl refl refl
-
-  -- from an empty tally
-  pub carried_all : (ls : List (List ℕ)) → (after placed (place true (cold_start words bytes).state (tally 0 [])) ls).tally ≡ tally_of words bytes (take LIMIT ls)
-  unfolding tally_of subframes_of clipped_of
-  carried_all ls =
-      let k : Kept 0 [] = record { lines_kept = omega arith; outcomes_kept = omega arith; subframes_kept = omega arith; clipped_kept = no_kinds 0 } in
-      carried ls true (cold_start words bytes).state 0 [] k ∙ rw (all_walked (take LIMIT ls), zero-add (length (take LIMIT ls)))

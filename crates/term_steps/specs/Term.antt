@@ -5,7 +5,7 @@ use Rattle.state.specs.declared.State.{State}
 use Rattle.calls.specs.declared.Answer.{Answer}
 use Rattle.calls.specs.Celp as Celp
 use Rattle.calls.specs.Run.{Event, heard, missed}
-use Rattle.hex.specs.Text.{is_only}
+use Rattle.hex_lines.specs.Text.{is_only}
 use Rattle.table_file.specs.File as File
 use Rattle.heard.specs.Recording.{event, line_step, opening, tables_text}
 use Rattle.tally.specs.declared.Tally.{Tally}

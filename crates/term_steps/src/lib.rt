@@ -1,10 +1,12 @@
 // What the term report is: specs/ has all of it, and here stands what is carried on between lines.
-use hex::Line;
+#![tactic(auto)]
+
+use hex_lines::Line;
 use state::State;
 use tally::Tally;
 
 // Where the input stands between two lines: whether a recording's first line is to come, the decoder's state, and the tally.
-#[derive(Drop)]
+#[derive(Clone, Copy)]
 pub struct Place {
     pub first: bool,
     pub state: State,
@@ -12,7 +14,7 @@ pub struct Place {
 }
 
 // Where it stands in a line.
-#[derive(Drop)]
+#[derive(Clone, Copy)]
 pub struct Recorder {
     pub first: bool,
     pub state: State,
@@ -21,7 +23,7 @@ pub struct Recorder {
 }
 
 // The start: the table file's refusal number, how long its text is, and where the input stands.
-#[derive(Drop)]
+#[derive(Clone, Copy)]
 pub struct Started {
     pub recorder: Recorder,
     pub number: u8,

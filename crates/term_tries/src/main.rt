@@ -1,6 +1,8 @@
 // Recordings that report is tried on. A line of standard input names a table file and recordings; a heading and what report writes of the two follow.
 // Where a line begins with `near `, two lines may be counted before the limit, classes and one sum of clipped samples are at their top, another is 3 below it, and
 // code gains go from 5 to 7.
+#![tactic(auto)]
+
 ghost use Rattle.std.specs.Prelude.{◌≤◌, ◌<◌, length};
 ghost use Rattle.heard.specs.Start as Start;
 
@@ -54,16 +56,16 @@ fn least(a: usize, b: usize) -> usize
     if a < b { a } else { b }
 }
 
-fn tell(words: &[i16], file: &[u8], recorder: Recorder)
+fn tell(rt: &HostRuntime, words: &[i16], file: &[u8], recorder: Recorder)
     requires { Start.Tables words.now file.now }
 {
     let mut room = [0u8; 16384];
     let n = term::report(words, file, recorder, &mut room);
-    pipe::write(&room[..n]);
+    pipe::write(rt, &room[..n]);
 }
 
 // In chunks of 7 bytes, so that lines are cut by them.
-fn count(words: &[i16], file: &[u8], start: Recorder, input: &[u8])
+fn count(rt: &HostRuntime, words: &[i16], file: &[u8], start: Recorder, input: &[u8])
     requires { Start.Tables words.now file.now }
 {
     let mut recorder = start;
@@ -73,25 +75,31 @@ fn count(words: &[i16], file: &[u8], start: Recorder, input: &[u8])
         recorder = term::feed(words, file, recorder, &input[at..to]);
         at = to;
     }
-    tell(words, file, recorder);
+    tell(rt, words, file, recorder);
 }
 
 // A case: the two files' names. A file that is not there is empty.
-fn attempt(tables: &[u8], name: &[u8], is_near: bool) {
+fn attempt(rt: &HostRuntime, tables: &[u8], name: &[u8], is_near: bool) {
     let mut file = [0u8; 15835];
     let mut words = [0i16; 5963];
     let mut room = [0u8; 40];
-    let got = pipe::read_file(tables, &mut file);
+    let got = pipe::read_file(rt, tables, &mut file);
     let n = got.n;
     let start = term::begin(&file[..n], &mut words, &mut room);
     let k = start.n;
-    pipe::write(&room[..k]);
+    pipe::write(rt, &room[..k]);
     if start.number == 0 {
         let mut input = [0u8; 4096];
-        let read = pipe::read_file(name, &mut input);
+        let read = pipe::read_file(rt, name, &mut input);
         let m = read.n;
         let recorder = start.recorder;
-        count(&words, &file[..n], begun(recorder, is_near), &input[..m]);
+        count(
+            rt,
+            &words,
+            &file[..n],
+            begun(recorder, is_near),
+            &input[..m],
+        );
     }
 }
 
@@ -111,32 +119,32 @@ fn find(text: &[u8], from: usize, b: u8) -> usize
 }
 
 // What stands before the first blank, and what stands behind it.
-fn named(text: &[u8], is_near: bool) {
+fn named(rt: &HostRuntime, text: &[u8], is_near: bool) {
     let blank = find(text, 0, b' ');
     if blank < text.len() {
         let behind = blank + 1;
-        attempt(&text[0..blank], &text[behind..], is_near);
+        attempt(rt, &text[0..blank], &text[behind..], is_near);
     }
 }
 
-fn line(text: &[u8]) {
-    pipe::write(b"== ");
-    pipe::write(text);
-    pipe::write(b"\n");
+fn line(rt: &HostRuntime, text: &[u8]) {
+    pipe::write(rt, b"== ");
+    pipe::write(rt, text);
+    pipe::write(rt, b"\n");
     if 5 <= text.len() {
         if text[0] == b'n' {
-            named(&text[5..], true);
+            named(rt, &text[5..], true);
         } else {
-            named(text, false);
+            named(rt, text, false);
         }
     }
 }
 
-fn cases(input: &[u8]) {
+fn cases(rt: &HostRuntime, input: &[u8]) {
     let mut at = 0;
     while at < input.len() {
         let end = find(input, at, b'\n');
-        line(&input[at..end]);
+        line(rt, &input[at..end]);
         if end < input.len() {
             at = end + 1;
         } else {
@@ -145,9 +153,9 @@ fn cases(input: &[u8]) {
     }
 }
 
-fn main() {
+fn main(rt: HostRuntime) {
     let mut input = io::buffer();
-    let got = pipe::read(&mut input);
+    let got = pipe::read(&rt, &mut input);
     let n = got.n;
-    cases(&input[..n]);
+    cases(&rt, &input[..n]);
 }

@@ -1,6 +1,8 @@
 // Frames in hexadecimal as a receiver's digits.
+#![tactic(auto)]
+
 use convert::Way;
 
-fn main() {
-    convert_console::run(Way::ToReceiver);
+fn main(rt: HostRuntime) {
+    convert_console::run(&rt, Way::ToReceiver);
 }

@@ -1,10 +1,11 @@
 // Prints every figure of every frame of a recording, a line a part: numbers in decimal, floats by their bits.
 // tables.bin lies beside it, the recording comes on standard input, and the state that it starts in, decode's, is said first.
 // A line `digest NAME` begins another recording, with the table file of that name, and from there on 32 bits stand for each part.
+#![tactic(auto)]
+
 use calls::Answer;
 use half::Clipped;
-use hex::Line;
-use libc::STDOUT_FILENO;
+use hex_lines::Line;
 use numbers::{size, wide_word};
 use observation::Subframe;
 use state::State;
@@ -31,7 +32,7 @@ fn history_lines(out: &mut [u8; 4096], at: usize, residuals: [f32; 30], gains: [
 }
 
 // The state is the last part of what a line of the recording gave.
-fn state_part(s: State, digest: bool) {
+fn state_part(rt: &HostRuntime, s: State, digest: bool) {
     let mut out = io::buffer();
     let fir = s.fir;
     let iir = s.iir;
@@ -44,18 +45,18 @@ fn state_part(s: State, digest: bool) {
     let e = number(&mut out, d, wide(s.mark));
     let f = end(&mut out, e);
     let g = sure_line(&mut out, f, s.sure);
-    part(&out, g, digest);
+    part(rt, &out, g, digest);
     if digest {
-        io::write_all(STDOUT_FILENO, b"\n");
+        pipe::write(rt, b"\n");
     }
 }
 
 // What is said first is never a digest; a part that is one stands in the same line.
-fn head(name: &[u8], n: u8, digest: bool) {
-    io::write_all(STDOUT_FILENO, name);
-    io::print_decimal(STDOUT_FILENO, wide(n));
+fn head(rt: &HostRuntime, name: &[u8], n: u8, digest: bool) {
+    pipe::write(rt, name);
+    numbers::say_digits(rt, wide(n));
     if !digest {
-        io::write_all(STDOUT_FILENO, b"\n");
+        pipe::write(rt, b"\n");
     }
 }
 
@@ -74,7 +75,7 @@ fn clipped_line(out: &mut [u8; 4096], at: usize, c: Clipped) -> usize {
     end(out, f)
 }
 
-fn subframe_part(s: Subframe, clipped: Clipped, sure: u8, digest: bool) {
+fn subframe_part(rt: &HostRuntime, s: Subframe, clipped: Clipped, sure: u8, digest: bool) {
     let mut out = io::buffer();
     let figures = s.figures;
     let lpc = s.lpc;
@@ -88,54 +89,62 @@ fn subframe_part(s: Subframe, clipped: Clipped, sure: u8, digest: bool) {
     let g = end(&mut out, f);
     let h = clipped_line(&mut out, g, clipped);
     let i = sure_line(&mut out, h, sure);
-    part(&out, i, digest);
+    part(rt, &out, i, digest);
 }
 
-fn numbers_part(name: &[u8], w: &[i16], digest: bool) {
+fn numbers_part(rt: &HostRuntime, name: &[u8], w: &[i16], digest: bool) {
     let mut out = io::buffer();
     let n = numbers(&mut out, 0, name, w);
-    part(&out, n, digest);
+    part(rt, &out, n, digest);
 }
 
-fn answer_parts(a: Answer, samples: &[i16], digest: bool) {
+fn answer_parts(rt: &HostRuntime, a: Answer, samples: &[i16], digest: bool) {
     if a.number != 0 {
-        head(b"refused ", a.number, digest);
+        head(rt, b"refused ", a.number, digest);
         return;
     }
-    head(b"accepted ", a.mark, digest);
-    numbers_part(b"samples", samples, digest);
+    head(rt, b"accepted ", a.mark, digest);
+    numbers_part(rt, b"samples", samples, digest);
     let excitation = a.excitation;
-    numbers_part(b"excitation", &excitation, digest);
+    numbers_part(rt, b"excitation", &excitation, digest);
     let subframes = a.subframes;
     let clipped = a.clipped;
     let sure = a.sure;
-    subframe_part(subframes[0], clipped[0], sure[0], digest);
-    subframe_part(subframes[1], clipped[1], sure[1], digest);
-    subframe_part(subframes[2], clipped[2], sure[2], digest);
-    subframe_part(subframes[3], clipped[3], sure[3], digest);
+    subframe_part(rt, subframes[0], clipped[0], sure[0], digest);
+    subframe_part(rt, subframes[1], clipped[1], sure[1], digest);
+    subframe_part(rt, subframes[2], clipped[2], sure[2], digest);
+    subframe_part(rt, subframes[3], clipped[3], sure[3], digest);
 }
 
 // A line's call: the state after it.
-fn heard(words: &[i16], bytes: &[u8], state: State, line: Line, digest: bool) -> State {
-    if hex::held_frame(line) {
+fn heard(
+    rt: &HostRuntime,
+    words: &[i16],
+    bytes: &[u8],
+    state: State,
+    line: Line,
+    digest: bool,
+) -> State {
+    if hex_lines::held_frame(line) {
         let text = line.text;
-        let payload = hex::payload(text);
+        let payload = hex_lines::payload(text);
         let mut samples = [0i16; 320];
         let a = celp::decode(words, bytes, state, &payload, &mut samples);
-        answer_parts(a, &samples, digest);
+        answer_parts(rt, a, &samples, digest);
         let next = a.state;
-        state_part(next, digest);
+        state_part(rt, next, digest);
         return next;
     }
-    head(b"refused ", 9, digest);
+    head(rt, b"refused ", 9, digest);
     let missed = state::missed_frame(state);
     let next = missed.state;
-    state_part(next, digest);
+    state_part(rt, next, digest);
     next
 }
 
 // A line is over: the state after it. With the first it is known, and said, which state the recording starts in: reset's where that line is `+`.
 fn line_over(
+    rt: &HostRuntime,
     words: &[i16],
     bytes: &[u8],
     first: bool,
@@ -144,22 +153,22 @@ fn line_over(
     digest: bool,
 ) -> State {
     if !first {
-        return heard(words, bytes, state, line, digest);
+        return heard(rt, words, bytes, state, line, digest);
     }
-    if hex::is_only(line, b'+') {
+    if hex_lines::is_only(line, b'+') {
         let start = state::reset(words, bytes);
         let next = start.state;
-        state_part(next, digest);
+        state_part(rt, next, digest);
         return next;
     }
-    state_part(state, digest);
-    heard(words, bytes, state, line, digest)
+    state_part(rt, state, digest);
+    heard(rt, words, bytes, state, line, digest)
 }
 
 // The end of a recording: one without a line starts cold.
-fn ended(first: bool, state: State, digest: bool) {
+fn ended(rt: &HostRuntime, first: bool, state: State, digest: bool) {
     if first {
-        state_part(state, digest);
+        state_part(rt, state, digest);
     }
 }
 
@@ -172,9 +181,14 @@ fn put_bytes(file: &[u8; 15835], bytes: &mut [u8; 3908]) {
 }
 
 // The table file's words and bytes, and its number. A byte more than it should have tells one that is too long.
-fn read_tables(name: &[u8], words: &mut [i16; 5963], bytes: &mut [u8; 3908]) -> u8 {
+fn read_tables(
+    rt: &HostRuntime,
+    name: &[u8],
+    words: &mut [i16; 5963],
+    bytes: &mut [u8; 3908],
+) -> u8 {
     let mut file = [0u8; 15835];
-    let got = pipe::read_file(name, &mut file);
+    let got = pipe::read_file(rt, name, &mut file);
     let n = got.n;
     put_bytes(&file, bytes);
     table_file::check_file(&file[..n], words)
@@ -200,22 +214,28 @@ fn is_heading(line: Line) -> bool {
 }
 
 // The table file that a heading, the first n bytes of the text, names behind its seventh.
-fn read_named(text: &[u8], n: usize, words: &mut [i16; 5963], bytes: &mut [u8; 3908]) {
+fn read_named(
+    rt: &HostRuntime,
+    text: &[u8],
+    n: usize,
+    words: &mut [i16; 5963],
+    bytes: &mut [u8; 3908],
+) {
     if n <= text.len() {
-        io::write_all(STDOUT_FILENO, &text[..n]);
+        pipe::write(rt, &text[..n]);
         if 7 <= n {
-            let number = read_tables(&text[7..n], words, bytes);
+            let number = read_tables(rt, &text[7..n], words, bytes);
             if number != 0 {
-                head(b" refused ", number, true);
+                head(rt, b" refused ", number, true);
             }
         }
     }
 }
 
 // Another recording begins.
-fn headed(line: Line, words: &mut [i16; 5963], bytes: &mut [u8; 3908]) -> State {
+fn headed(rt: &HostRuntime, line: Line, words: &mut [i16; 5963], bytes: &mut [u8; 3908]) -> State {
     let text = line.text;
-    read_named(&text, line.n, words, bytes);
+    read_named(rt, &text, line.n, words, bytes);
     let start = state::cold_start(words, bytes);
     start.state
 }
@@ -229,7 +249,13 @@ struct Carried {
     digest: bool,
 }
 
-fn taken(words: &mut [i16; 5963], bytes: &mut [u8; 3908], c: Carried, s: &[u8]) -> Carried {
+fn taken(
+    rt: &HostRuntime,
+    words: &mut [i16; 5963],
+    bytes: &mut [u8; 3908],
+    c: Carried,
+    s: &[u8],
+) -> Carried {
     let mut first = c.first;
     let mut state = c.state;
     let mut line = c.line;
@@ -240,17 +266,17 @@ fn taken(words: &mut [i16; 5963], bytes: &mut [u8; 3908], c: Carried, s: &[u8]) 
         i += 1;
         if b == b'\n' {
             if is_heading(line) {
-                ended(first, state, digest);
-                state = headed(line, words, bytes);
+                ended(rt, first, state, digest);
+                state = headed(rt, line, words, bytes);
                 first = true;
                 digest = true;
             } else {
-                state = line_over(words, bytes, first, state, line, digest);
+                state = line_over(rt, words, bytes, first, state, line, digest);
                 first = false;
             }
-            line = hex::empty();
+            line = hex_lines::empty();
         } else {
-            line = hex::push(line, b);
+            line = hex_lines::push(line, b);
         }
     }
     Carried {
@@ -267,11 +293,16 @@ struct Turn {
     more: bool,
 }
 
-fn read_some(words: &mut [i16; 5963], bytes: &mut [u8; 3908], c: Carried) -> Turn {
+fn read_some(
+    rt: &HostRuntime,
+    words: &mut [i16; 5963],
+    bytes: &mut [u8; 3908],
+    c: Carried,
+) -> Turn {
     let mut buf = io::buffer();
-    let got = pipe::read(&mut buf);
+    let got = pipe::read(rt, &mut buf);
     let n = got.n;
-    let next = taken(words, bytes, c, &buf[..n]);
+    let next = taken(rt, words, bytes, c, &buf[..n]);
     Turn {
         carried: next,
         more: n > 0,
@@ -279,18 +310,18 @@ fn read_some(words: &mut [i16; 5963], bytes: &mut [u8; 3908], c: Carried) -> Tur
 }
 
 // The recording; a last line without its end counts too.
-fn run(words: &mut [i16; 5963], bytes: &mut [u8; 3908]) {
+fn run(rt: &HostRuntime, words: &mut [i16; 5963], bytes: &mut [u8; 3908]) {
     let start = state::cold_start(words, bytes);
     let cold = start.state;
     let mut c = Carried {
         first: true,
         state: cold,
-        line: hex::empty(),
+        line: hex_lines::empty(),
         digest: false,
     };
     let mut turns = u64::MAX;
     while turns > 0 {
-        let t = read_some(words, bytes, c);
+        let t = read_some(rt, words, bytes, c);
         c = t.carried;
         if t.more {
             turns -= 1;
@@ -301,21 +332,21 @@ fn run(words: &mut [i16; 5963], bytes: &mut [u8; 3908]) {
     let line = c.line;
     let state = c.state;
     if line.n != 0 {
-        line_over(words, bytes, c.first, state, line, c.digest);
+        line_over(rt, words, bytes, c.first, state, line, c.digest);
     } else {
-        ended(c.first, state, c.digest);
+        ended(rt, c.first, state, c.digest);
     }
 }
 
-fn main() {
+fn main(rt: HostRuntime) {
     let mut words = [0i16; 5963];
     let mut bytes = [0u8; 3908];
-    let number = read_tables(b"tables.bin", &mut words, &mut bytes);
+    let number = read_tables(&rt, b"tables.bin", &mut words, &mut bytes);
     if number != 0 {
-        head(b"refused ", number, false);
+        head(&rt, b"refused ", number, false);
         return;
     }
-    run(&mut words, &mut bytes);
+    run(&rt, &mut words, &mut bytes);
 }
 
 // A part of what is printed is put together in a room: lines of a name and numbers with a blank before each. Each function below puts
@@ -412,19 +443,21 @@ fn fnv(s: &[u8]) -> u64 {
     h
 }
 
-fn say(out: &[u8], n: usize, digest: bool) {
+fn say(rt: &HostRuntime, out: &[u8], n: usize, digest: bool) {
     if out.len() < n {
         return;
     }
     if digest {
-        io::write_all(STDOUT_FILENO, b" ");
-        io::print_hex(STDOUT_FILENO, fnv(&out[..n]), 8);
+        let mut digits = [0u8; 16];
+        let k = io::hex(fnv(&out[..n]), 8, &mut digits);
+        pipe::write(rt, b" ");
+        pipe::write(rt, &digits[..k]);
     } else {
-        io::write_all(STDOUT_FILENO, &out[..n]);
+        pipe::write(rt, &out[..n]);
     }
 }
 
 // A part is over: it is written, or in its place 32 bits of it.
-fn part(out: &[u8; 4096], n: usize, digest: bool) {
-    say(out, n, digest);
+fn part(rt: &HostRuntime, out: &[u8; 4096], n: usize, digest: bool) {
+    say(rt, out, n, digest);
 }

@@ -3,7 +3,7 @@ use Rattle.std.specs.Prelude.{ℕ, ◌+◌, ◌-◌, ◌*◌, min, List, [], ◌
 use Rattle.sequence.specs.All.{all}
 use Rattle.sequence.specs.First.{first}
 use Rattle.stream.specs.Decimal.{decimal}
-use Rattle.hex.specs.Text.{value, is_digit}
+use Rattle.hex_lines.specs.Text.{value, is_digit}
 
 -- ---- the forms of a line
 unfoldable pub is_decimal : ℕ → Bool

@@ -2,7 +2,7 @@
 use Rattle.std.specs.Prelude.{ℕ, ◌≡◌, refl, List, [], ◌∷◌, ◌++◌, true, false, replicate}
 use Rattle.sequence.specs.First.{first_from}
 use Rattle.stream.specs.Decimal.{decimal_in, decimal}
-use Rattle.hex.specs.Text.{value, is_digit}
+use Rattle.hex_lines.specs.Text.{value, is_digit}
 use Rattle.verdict.specs.Verdict.{is_decimal, same, refused_word, is_frame, is_refusal, known, head, says, refusal, mark, agree, digits_at, spelled, spaced, differs, place, sample_of, sample, sample_at, what, difference, added, next, judge}
 
 -- `refused`, `refused `, `refused 6`, `refused 06`, that with a carriage return behind, `Refused 6`, `refused -6`, nothing, `2` and a blank

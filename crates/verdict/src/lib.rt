@@ -1,9 +1,11 @@
 // A line of another decoder's beside ours: what is held of it, the forms of a line, and what differs first between the two.
+#![tactic(auto)]
+
 ghost use Rattle.std.specs.Prelude.{◌≡◌, true, ◌&&◌, ◌≤◌, ◌<◌, min, length};
 ghost use Rattle.sequence.specs.All.{all};
 ghost use Rattle.stream.specs.Lines.{pieces};
 ghost use Rattle.stream.specs.Machine.{fed_all};
-ghost use Rattle.hex.specs.Text as Text;
+ghost use Rattle.hex_lines.specs.Text as Text;
 ghost use Rattle.verdict.specs.Verdict as Verdict;
 ghost use Rattle.verdict.specs.Kept as Kept;
 ghost use Rattle.verdict.specs.Round as Round;
@@ -110,7 +112,7 @@ fn digits(text: &[u8]) -> bool
 {
     let mut i = 0;
     while i < text.len() {
-        if hex::value(text[i]) < 16 {
+        if hex_lines::value(text[i]) < 16 {
             i += 1;
         } else {
             return false;
@@ -202,10 +204,10 @@ pub fn spelled(text: &[u8], p: usize) -> u32
     ensures { result ≡ Verdict.spelled text.now p }
 {
     let at = 2 + 4 * p;
-    let a = hex::value(text[at]) as u32;
-    let b = hex::value(text[at + 1]) as u32;
-    let c = hex::value(text[at + 2]) as u32;
-    let d = hex::value(text[at + 3]) as u32;
+    let a = hex_lines::value(text[at]) as u32;
+    let b = hex_lines::value(text[at + 1]) as u32;
+    let c = hex_lines::value(text[at + 2]) as u32;
+    let d = hex_lines::value(text[at + 3]) as u32;
     4096 * a + 256 * b + 16 * c + d
 }
 

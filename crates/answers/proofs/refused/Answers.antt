@@ -1,0 +1,7 @@
+-- The parts that the calls give are the definition's.
+use Rattle.calls.specs.Celp.{refused}
+use Rattle.answers.proofs.refused.Goals as goal
+
+pub returns : goal.returns
+unfolding refused
+returns c = rw (c.before.before.marked-left.ensures, c.before.silent-nothing.ensures, c.unclipped-none.ensures)

@@ -1,0 +1,5 @@
+pub mod Mark
+pub mod StateRule
+pub mod Relied
+pub mod Regained
+pub mod WorkedCall

@@ -1,0 +1,27 @@
+-- The lengths decide first; then the answer and the image are those of the call on states.
+use mathlib.Core.Path.{refl, ap, ◌∙◌}
+use Rattle.state.specs.State.{cold_start}
+use Rattle.desk_calls.specs.Desk.{zeros}
+use Rattle.desk.proofs.Outcomes.{words_are, started_is, cold_eleven, cold_one, cold_told}
+use Rattle.desk.proofs.drolkhise_cold_start.Goals as goal
+
+pub returns-then-image-ne-SIZE : goal.returns-then-image-ne-SIZE
+returns-then-image-ne-SIZE c =
+    let a = c.args in
+    let t = cold_eleven a.tables.now a.image.now c.if-image-ne-SIZE.true in
+    record { number = t.0; image = t.1 }
+
+pub returns-then-tables-ne-TABLES : goal.returns-then-tables-ne-TABLES
+returns-then-tables-ne-TABLES c =
+    let a = c.args in
+    let o = cold_one a.tables.now a.image.now c.if-image-ne-SIZE.false c.if-tables-ne-TABLES.true in
+    record {
+      number = o.0;
+      image = c.clear.ensures ∙ ap zeros c.if-image-ne-SIZE.false ∙ o.1;
+    }
+
+pub returns : goal.returns
+returns c =
+    let a = c.args in
+    let t = cold_told a.tables.now a.image.now c.if-image-ne-SIZE.false c.if-tables-ne-TABLES.false c.cold_start-r.result _ (started_is a.tables.now _ _ (words_are a.tables.now _ _ refl c.read_words.ensures) refl cold_start _ c.cold_start-r.ensures) c.write.ensures in
+    record { number = t.0; image = t.1 }

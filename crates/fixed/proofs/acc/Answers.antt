@@ -1,0 +1,12 @@
+-- Two shifts by 24 wrap 64 bits to 40.
+use mathlib.Core.Path.{refl}
+use mir.Syntax.{w64}
+use mir.ValLaws.{to_z-of_z}
+use Rattle.fixed.specs.Machine.{shl_shr, wrap_sfits}
+use Rattle.fixed.proofs.acc.Goals as goal
+
+pub returns : goal.returns
+returns c =
+    let v = c.args.v in
+    let f = wrap_sfits w64 40 v tt in
+    simp (shl_shr 40 24 v refl c.ranges.v, to_z-of_z)

@@ -1,0 +1,3 @@
+pub mod HalfSame
+pub mod FrameSame
+pub mod Calls

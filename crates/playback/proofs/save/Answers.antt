@@ -1,0 +1,6 @@
+-- What is kept is what was found.
+use Rattle.playback.proofs.save.Goals as goal
+
+pub returns : goal.returns
+returns c =
+    rw (← c.found-s.ensures) c.keep.ensures

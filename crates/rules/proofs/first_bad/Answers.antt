@@ -1,0 +1,24 @@
+-- The loop looks through the places below n, which is the count of the rule.
+use native.Mathlib.Nat.{sub-zero}
+use mathlib.Core.Path.{sym, ◌∙◌}
+use Rattle.sequence.specs.First.{first_more, first_found, first_none}
+use borrow.Author.Rules.{rules}
+use Rattle.rules.proofs.first_bad.Goals as goal
+
+pub loop-k-init : goal.loop-k-init
+loop-k-init c = (search rules, c.count-n.ensures, rw sub-zero)
+
+pub returns-then-bad : goal.returns-then-bad
+returns-then-bad c =
+    let at = c.before.before.before.loop-k in
+    rw (← at.invariant.1) (sym (at.invariant.2 ∙ first_found _ at.k _ c.before.before.loop-k-test.true (sym c.before.bad.ensures ∙ c.if-bad.true)))
+
+pub loop-k-preserved : goal.loop-k-preserved
+loop-k-preserved c =
+    let at = c.before.before.before.loop-k in
+    (search rules, at.invariant.1, at.invariant.2 ∙ first_more _ at.k _ c.before.before.loop-k-test.true (sym c.before.bad.ensures ∙ c.if-bad.false))
+
+pub returns : goal.returns
+returns c =
+    let at = c.before.loop-k in
+    rw (← at.invariant.1) (sym (at.invariant.2 ∙ first_none _ at.k _ c.loop-k-test.false))
