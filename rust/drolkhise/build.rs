@@ -1,4 +1,4 @@
-//! Finds the archive libdesk.a: in the folder that DROLKHISE_LIB_DIR names, or by `rt staticlib desk`, which proves it and writes it.
+//! Finds the archive libdesk.a: in the folder that DROLKHISE_LIB_DIR names, or by `tools/build desk`, which proves it and writes it.
 use std::env;
 use std::path::{Path, PathBuf};
 use std::process::{exit, Command};
@@ -17,14 +17,14 @@ fn proved() -> PathBuf {
     if !root.join("crates/desk").is_dir() {
         fail(&format!("{FOLDER} is not set, and {} is not the repository that {ARCHIVE} is made in. Set it to the folder of {ARCHIVE}.", root.display()));
     }
-    match Command::new("rt").args(["staticlib", "desk"]).current_dir(&root).output() {
+    match Command::new(root.join("tools/build")).arg("desk").current_dir(&root).output() {
         Err(why) => fail(&format!(
             "{FOLDER} is not set, and `rt`, the Rattle toolchain, cannot be run ({why}). Set it to the folder of {ARCHIVE}, or put `rt` on PATH."
         )),
         Ok(ran) if !ran.status.success() => {
             let said = String::from_utf8_lossy(&ran.stdout).into_owned() + &String::from_utf8_lossy(&ran.stderr);
             let lines: Vec<&str> = said.lines().collect();
-            fail(&format!("`rt staticlib desk` failed; the end of what it said:\n{}", lines[lines.len().saturating_sub(12)..].join("\n")))
+            fail(&format!("`tools/build desk` failed; the end of what it said:\n{}", lines[lines.len().saturating_sub(12)..].join("\n")))
         }
         Ok(_) => root.join("target/staticlib"),
     }
@@ -45,7 +45,7 @@ fn main() {
     let folder = named.unwrap_or_else(proved);
     let archive = folder.join(ARCHIVE);
     if !archive.is_file() {
-        let who = if is_named { FOLDER } else { "`rt staticlib desk`" };
+        let who = if is_named { FOLDER } else { "`tools/build desk`" };
         fail(&format!("there is no {}, and by {who} there should be.", archive.display()));
     }
     println!("cargo:rerun-if-changed={}", archive.display());
