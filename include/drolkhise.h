@@ -1,6 +1,6 @@
 /* Drolkhise for a player in C: the decoder of recorded railway radio calls, 320 samples a frame, over plain bytes that the caller lends.
  *
- * Link libdesk.a, which `rt staticlib desk` writes: an archive for x86-64 Linux that needs memcpy and memset and nothing else. Where tools/install has put
+ * Link libdesk.a, which `tools/build desk` writes: an archive for x86-64 Linux that needs memcpy and memset and nothing else. Where tools/install has put
  * it, `cc player.c $(pkg-config --cflags --libs drolkhise)` does. A call takes some 40 KB of stack and no heap; drolkhise_decode_frames some 80 KB.
  *
  * Each buffer is a pointer and its length in bytes, and is looked at only where the length is the right one. Any lengths and any bytes may be lent;

@@ -19,12 +19,15 @@ fn proved() -> PathBuf {
     }
     match Command::new(root.join("tools/build")).arg("desk").current_dir(&root).output() {
         Err(why) => fail(&format!(
-            "{FOLDER} is not set, and `rt`, the Rattle toolchain, cannot be run ({why}). Set it to the folder of {ARCHIVE}, or put `rt` on PATH."
+            "{FOLDER} is not set, and tools/build cannot be run ({why}). Set it to the folder of {ARCHIVE}."
         )),
         Ok(ran) if !ran.status.success() => {
             let said = String::from_utf8_lossy(&ran.stdout).into_owned() + &String::from_utf8_lossy(&ran.stderr);
             let lines: Vec<&str> = said.lines().collect();
-            fail(&format!("`tools/build desk` failed; the end of what it said:\n{}", lines[lines.len().saturating_sub(12)..].join("\n")))
+            fail(&format!(
+                "{FOLDER} is not set, and `tools/build desk` failed; the end of what it said:\n{}\nSet {FOLDER} to the folder of {ARCHIVE}, or put `rt`, the Rattle toolchain, on PATH.",
+                lines[lines.len().saturating_sub(12)..].join("\n")
+            ))
         }
         Ok(_) => root.join("target/staticlib"),
     }
