@@ -18,9 +18,7 @@ fn proved() -> PathBuf {
         fail(&format!("{FOLDER} is not set, and {} is not the repository that {ARCHIVE} is made in. Set it to the folder of {ARCHIVE}.", root.display()));
     }
     match Command::new(root.join("tools/build")).arg("desk").current_dir(&root).output() {
-        Err(why) => fail(&format!(
-            "{FOLDER} is not set, and tools/build cannot be run ({why}). Set it to the folder of {ARCHIVE}."
-        )),
+        Err(why) => fail(&format!("{FOLDER} is not set, and tools/build cannot be run ({why}). Set it to the folder of {ARCHIVE}.")),
         Ok(ran) if !ran.status.success() => {
             let said = String::from_utf8_lossy(&ran.stdout).into_owned() + &String::from_utf8_lossy(&ran.stderr);
             let lines: Vec<&str> = said.lines().collect();
