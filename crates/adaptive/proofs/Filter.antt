@@ -111,6 +111,10 @@ module _ (taps w : List ℤ) (phase : ℕ) (d : Windowed taps phase w) where
       (sample_is taps w x phase (2 + k) d ∙ ap (Pitch.interpolated_sample taps phase x) (omega arith)))
 
 -- ---- the sum is made in two runs
+-- the last eight taps, as they are lent
+pub rest_is : (w : List ℤ) → length w ≡ 24 → take 8 (drop 16 w) ≡ drop 16 w
+rest_is w p = take_all 8 (drop 16 w) (omega (arith, length-drop 16 w))
+
 module _ (w signal : List ℤ) (from : ℕ) (p : length w ≡ 24) (q : from + 24 ≤ length signal) where
   abbrev first : List ℤ
   first = take (from + 16 - from) (drop from signal)
@@ -123,10 +127,6 @@ module _ (w signal : List ℤ) (from : ℕ) (p : length w ≡ 24) (q : from + 24
 
   pub length_second : length second ≡ 8
   length_second = simp (length-take, length-drop) (omega arith)
-
-  -- the last eight taps, as they are lent
-  pub rest_is : take (length w - 16) (drop 16 w) ≡ drop 16 w
-  rest_is = take_all (length w - 16) (drop 16 w) (omega (arith, length-drop 16 w))
 
   in_first : (k : ℕ) → k < 16 → Runs.term (take 16 w) first k ≡ term w signal from k
   unfolding term

@@ -9,10 +9,9 @@ ghost use Rattle.tables.specs.Places.{WORDS};
 ghost use Rattle.pitch.specs.Pitch as Pitch;
 ghost use Rattle.adaptive.specs.Window as Window;
 
-use fixed::{acc, clips, ends, fold, hi, mul32x16, one, sat, shift};
-use pitch::{Lag, delay, phase};
+use fixed::{acc, clips, ends, fold, hi, mul32x16, sat, shift};
+use pitch::Lag;
 use products::{fold_products, small};
-use slices::copy;
 
 // The interpolation filter's taps.
 fn interp(words: &[i16]) -> &[i16]
@@ -24,76 +23,94 @@ fn interp(words: &[i16]) -> &[i16]
     &words[start..end]
 }
 
-// The twenty taps of a phase in the signal's order, and four more that are 0.
-fn window(taps: &[i16], phase: usize) -> [i16; 24]
-    requires { (length taps.now ≡ 31) × (phase < 3) }
-    ensures { Window.Windowed taps.now phase result }
-{
-    let mut out = [0i16; 24];
-    for k in 0..10 {
-        out[9 - k] = taps[phase + 3 * k];
-        out[10 + k] = taps[3 - phase + 3 * k];
-    }
-    out
+// The twenty taps of a phase in the signal's order, and four more that are 0; and whether the first sixteen are small, and the last eight.
+#[derive(Drop)]
+struct PhaseTaps {
+    window: [i16; 24],
+    narrow: bool,
+    ghost ended: { Window.Ended window },
+    ghost narrowed: { narrow ≡ Window.narrow window },
 }
 
-// Whether the first sixteen taps are small, and the last eight.
-fn narrow(taps: &[i16]) -> bool
-    requires { length taps.now ≡ 24 }
-    ensures { result ≡ Window.narrow taps.now }
-{
-    if small(&taps[..16]) {
-        return small(&taps[16..]);
+impl PhaseTaps {
+    fn new(taps: &[i16], phase: usize) -> PhaseTaps
+        requires { (length taps.now ≡ 31) × (phase < 3) }
+        ensures { Window.Windowed taps.now phase result.window }
+    {
+        let mut window = [0i16; 24];
+        // by an index: each turn takes two taps, three apart from those before, and writes on both sides of the centre
+        for k in 0..10 {
+            window[9 - k] = taps[phase + 3 * k];
+            window[10 + k] = taps[3 - phase + 3 * k];
+        }
+        let narrow = small(&window[..16]) && small(&window[16..]);
+        PhaseTaps { window, narrow }
     }
-    false
-}
 
-// One sample between those of a signal, by the two-sided filter: by narrow taps in two runs, since all of them together are seldom small; by others the twenty alone, one by one.
-fn interpolated_sample(taps: &[i16], narrow: bool, signal: &[i16], from: usize) -> i64
-    requires { (length taps.now ≡ 24) × (narrow ≡ Window.narrow taps.now) × (from + 24 ≤ length signal.now) × Window.Ended taps.now }
-    ensures { result ≡ Window.sample taps.now signal.now from }
-{
-    if narrow {
-        let middle = from + 16;
-        let end = from + 24;
-        let first = fold_products(0, &taps[..16], true, &signal[from..middle]);
-        fold_products(first, &taps[16..], true, &signal[middle..end])
-    } else {
-        let end = from + 20;
-        fold_products(0, &taps[..20], false, &signal[from..end])
+    // One sample between those of a signal, by the two-sided filter: by narrow taps in two runs, since all of them together are seldom small; by others the twenty alone, one by one.
+    fn interpolated_sample(&self, signal: &[i16], from: usize) -> i64
+        requires { from + 24 ≤ length signal.now }
+        ensures { result ≡ Window.sample self.now.window signal.now from }
+    {
+        if self.narrow {
+            let middle = from + 16;
+            let end = from + 24;
+            let first = fold_products(0, &self.window[..16], true, &signal[from..middle]);
+            fold_products(first, &self.window[16..], true, &signal[middle..end])
+        } else {
+            let end = from + 20;
+            fold_products(0, &self.window[..20], false, &signal[from..end])
+        }
     }
-}
 
-// At how many of the 80 predicted samples saturation changed the sum: each is made of samples before it, which stand as they were read.
-fn predict_clipped(taps: &[i16], narrow: bool, exc: &[i16], at: usize, delay: usize) -> u8
-    requires { (length taps.now ≡ 24) × (narrow ≡ Window.narrow taps.now) × (154 ≤ at) × (at + 80 ≤ length exc.now) × (20 ≤ delay) × (delay ≤ 144) × Window.Ended taps.now }
-    ensures { result ≡ count (λ (n : ℕ). Fixed.clips (Window.predicted_sum taps.now delay at n exc.now)) 80 }
-{
-    let mut clipped = 0u8;
-    for n in 0..80 {
-        let value = interpolated_sample(taps, narrow, exc, at + n - delay - 9);
-        clipped += one(clips(fold(value, 32768)));
+    // At how many of the 80 predicted samples saturation changed the sum: each is made of samples before it, which stand as they were read.
+    fn predict_clipped(&self, exc: &[i16], at: usize, delay: usize) -> u8
+        requires { (154 ≤ at) × (at + 80 ≤ length exc.now) × (20 ≤ delay) × (delay ≤ 144) }
+        ensures { result ≡ count (λ (n : ℕ). Fixed.clips (Window.predicted_sum self.now.window delay at n exc.now)) 80 }
+    {
+        let mut clipped = 0u8;
+        // by an index: no sample is read alone, each turn reads 24 from a place on
+        for n in 0..80 {
+            let value = self.interpolated_sample(exc, at + n - delay - 9);
+            clipped += u8::from(clips(fold(value, 32768)));
+        }
+        clipped
     }
-    clipped
-}
 
-// The 80 samples, by a window of taps, and how many of them saturation changed. Each of those is at an end of 16 bits, so only a block with such a sample is counted.
-fn predict_from(taps: &[i16], narrow: bool, exc: &mut [i16], at: usize, delay: usize) -> u8
-    requires { (length taps.now ≡ 24) × (narrow ≡ Window.narrow taps.now) × (154 ≤ at) × (at + 80 ≤ length exc.old) × (20 ≤ delay) × (delay ≤ 144) × Window.Ended taps.now }
-    ensures samples { exc.new ≡ rewritten (Window.predicted taps.now delay at) at exc.old 80 }
-    ensures clipped { result ≡ Window.clipped taps.now delay at exc.old }
-{
-    for n in 0..80 {
-        let place = at + n;
-        let value = interpolated_sample(taps, narrow, &exc[..], place - delay - 9);
-        let y = hi(sat(fold(value, 32768)));
-        exc[place] = y;
+    // The 80 samples, and how many of them saturation changed. Each of those is at an end of 16 bits, so only a block with such a sample is counted.
+    fn predict_from(&self, exc: &mut [i16], at: usize, delay: usize) -> u8
+        requires { (154 ≤ at) × (at + 80 ≤ length exc.old) × (20 ≤ delay) × (delay ≤ 144) }
+        ensures samples { exc.new ≡ rewritten (Window.predicted self.now.window delay at) at exc.old 80 }
+        ensures clipped { result ≡ Window.clipped self.now.window delay at exc.old }
+    {
+        // by an index: the array that is written is read at earlier places in the same turn
+        for n in 0..80 {
+            let place = at + n;
+            let value = self.interpolated_sample(&exc[..], place - delay - 9);
+            let y = hi(sat(fold(value, 32768)));
+            exc[place] = y;
+        }
+        let end = at + 80;
+        if ends(&exc[at..end]) == 0 {
+            return 0;
+        }
+        self.predict_clipped(&exc[..], at, delay)
     }
-    let end = at + 80;
-    if ends(&exc[at..end]) == 0 {
-        return 0;
+
+    // The innovation behind its guard, from sample first on.
+    fn sharpen_from(&self, buf: &mut [i16], first: usize, gain: i16)
+        requires { (length buf.old ≡ 101) × (10 ≤ first) × (first ≤ 80) }
+        ensures { buf.new ≡ rewritten (Window.sharpened self.now.window first gain) (21 + first) buf.old (80 - first) }
+    {
+        let count = 80 - first;
+        // by an index: the array that is written is read at earlier places in the same turn
+        for n in 0..count {
+            let place = 21 + first + n;
+            let value = self.interpolated_sample(&buf[..], 2 + n);
+            let y = mixed(value, gain, buf[place]);
+            buf[place] = y;
+        }
     }
-    predict_clipped(taps, narrow, &exc[..], at, delay)
 }
 
 // The adaptive codebook's 80 samples from place at on, and how many of them saturation changed.
@@ -102,9 +119,8 @@ pub fn predict(words: &[i16], exc: &mut [i16], at: usize, lag: Lag) -> u8
     ensures samples { exc.new ≡ Pitch.predict (Pitch.interp words.now) exc.old at lag }
     ensures clipped { result ≡ Pitch.clipped (Pitch.interp words.now) exc.old at lag }
 {
-    let taps = window(interp(words), phase(lag));
-    let narrow = narrow(&taps[..]);
-    predict_from(&taps[..], narrow, exc, at, delay(lag))
+    let taps = PhaseTaps::new(interp(words), lag.phase());
+    taps.predict_from(exc, at, lag.delay())
 }
 
 // A sample of the innovation with its share of an earlier one.
@@ -112,21 +128,7 @@ fn mixed(value: i64, gain: i16, x: i16) -> i16
     ensures { result ≡ Pitch.mixed value gain x }
 {
     let scaled = shift(mul32x16(acc(value), gain), 1);
-    hi(fold(fold(scaled, (x as i64) * 65536), 32768))
-}
-
-// The innovation behind its guard, from sample first on.
-fn sharpen_from(taps: &[i16], narrow: bool, buf: &mut [i16], first: usize, gain: i16)
-    requires { (length taps.now ≡ 24) × (narrow ≡ Window.narrow taps.now) × (length buf.old ≡ 101) × (10 ≤ first) × (first ≤ 80) × Window.Ended taps.now }
-    ensures { buf.new ≡ rewritten (Window.sharpened taps.now first gain) (21 + first) buf.old (80 - first) }
-{
-    let count = 80 - first;
-    for n in 0..count {
-        let place = 21 + first + n;
-        let value = interpolated_sample(taps, narrow, &buf[..], 2 + n);
-        let y = mixed(value, gain, buf[place]);
-        buf[place] = y;
-    }
+    hi(fold(fold(scaled, i64::from(x) * 65536), 32768))
 }
 
 // The innovation behind zeros, which stand for the innovation before this subframe.
@@ -135,7 +137,7 @@ fn guarded(code: &[i16]) -> [i16; 101]
     ensures { result ≡ Pitch.guarded code.now }
 {
     let mut buf = [0i16; 101];
-    copy(&mut buf[21..], code);
+    buf[21..].copy_from_slice(code);
     buf
 }
 
@@ -145,13 +147,12 @@ pub fn sharpen(words: &[i16], code: &mut [i16], lag: Lag, gain: i16)
     ensures { code.new ≡ Pitch.sharpen (Pitch.interp words.now) code.old lag gain }
 {
     // the filter reaches ten samples past the delay
-    let first = delay(lag) - 10;
+    let first = lag.delay() - 10;
     if first >= 80 {
         return;
     }
     let mut buf = guarded(&code[..]);
-    let taps = window(interp(words), phase(lag));
-    let narrow = narrow(&taps[..]);
-    sharpen_from(&taps[..], narrow, &mut buf, first, gain);
-    copy(&mut code[..], &buf[21..]);
+    let taps = PhaseTaps::new(interp(words), lag.phase());
+    taps.sharpen_from(&mut buf, first, gain);
+    code.copy_from_slice(&buf[21..]);
 }

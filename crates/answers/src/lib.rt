@@ -9,6 +9,7 @@ use half::{Clipped, Core};
 use observation::{Decoded, Subframe};
 use output_filter::OutputFilter;
 use state::State;
+use sure::Sure;
 use tables::Fault;
 
 // What is reported of a subframe that was not decoded.
@@ -37,22 +38,19 @@ fn unclipped() -> Clipped
     }
 }
 
-// The answer to a frame that is refused.
+// The answer to a frame that is refused. A number and no Refusal: it takes any, and a narrower type would ask more of its callers.
 pub fn refused(number: u8, told: Fault, state: State) -> Answer
     ensures { result ≡ Celp.refused number told state }
 {
-    let left = state::marked(state, 0, 0);
-    let nothing = silent();
-    let none = unclipped();
     Answer {
         number,
         rule: told.rule,
         place: told.place,
         mark: 0,
-        state: left,
+        state: state::marked(state, 0, 0),
         excitation: [0; 320],
-        subframes: [nothing; 4],
-        clipped: [none; 4],
+        subframes: [silent(); 4],
+        clipped: [unclipped(); 4],
         sure: [0; 4],
     }
 }
@@ -61,20 +59,24 @@ pub fn refused(number: u8, told: Fault, state: State) -> Answer
 pub fn carried(state: State) -> Core
     ensures { result ≡ Celp.carried state }
 {
-    let lsp = state.lsp;
-    let excitation = state.excitation;
-    let memory = state.memory;
-    let fir = state.fir;
-    let iir = state.iir;
-    let filter = OutputFilter { fir, iir };
-    let gains = state.gains;
+    let State {
+        lsp,
+        excitation,
+        memory,
+        sharpen_fixed,
+        last_half_lag,
+        fir,
+        iir,
+        gains,
+        ..
+    } = state;
     Core {
         lsp,
         excitation,
         memory,
-        sharpen_fixed: state.sharpen_fixed,
-        last_half_lag: state.last_half_lag,
-        filter,
+        sharpen_fixed,
+        last_half_lag,
+        filter: OutputFilter { fir, iir },
         gains,
     }
 }
@@ -83,21 +85,27 @@ pub fn carried(state: State) -> Core
 fn next(d: Decoded, mark: u8, sure: u8) -> State
     ensures { result ≡ Celp.next d mark sure }
 {
-    let c = d.core;
-    let lsp = c.lsp;
-    let excitation = c.excitation;
-    let memory = c.memory;
-    let filter = c.filter;
-    let fir = filter.fir;
-    let iir = filter.iir;
-    let residuals = d.residuals;
-    let gains = c.gains;
+    let Decoded {
+        core,
+        residuals,
+        ..
+    } = d;
+    let Core {
+        lsp,
+        excitation,
+        memory,
+        sharpen_fixed,
+        last_half_lag,
+        filter,
+        gains,
+    } = core;
+    let OutputFilter { fir, iir } = filter;
     State {
         lsp,
         excitation,
         memory,
-        sharpen_fixed: c.sharpen_fixed,
-        last_half_lag: c.last_half_lag,
+        sharpen_fixed,
+        last_half_lag,
         fir,
         iir,
         residuals,
@@ -111,7 +119,7 @@ fn next(d: Decoded, mark: u8, sure: u8) -> State
 fn raised(mark: u8) -> u8
     ensures { result ≡ Celp.raised mark }
 {
-    if mark < 2 { mark + 1 } else { 2 }
+    mark.min(1) + 1
 }
 
 // The answer to a frame that is accepted; `came` is the mark that it came with, `w` how sure the excitation before it was.
@@ -119,19 +127,23 @@ pub fn accepted(came: u8, w: u8, d: Decoded) -> Answer
     ensures { result ≡ Celp.accepted came w d }
 {
     let after = raised(came);
-    let gains = d.pitch_gains;
-    let s = sure::after(came, w, gains);
-    let state = next(d, after, s.left);
-    let sure = s.subframes;
-    let excitation = d.excitation;
-    let subframes = d.subframes;
-    let clipped = d.clipped;
+    let Decoded {
+        excitation,
+        subframes,
+        clipped,
+        pitch_gains,
+        ..
+    } = d;
+    let Sure {
+        left,
+        subframes: sure,
+    } = sure::after(came, w, pitch_gains);
     Answer {
         number: 0,
         rule: 0,
         place: 0,
         mark: came,
-        state,
+        state: next(d, after, left),
         excitation,
         subframes,
         clipped,

@@ -10,7 +10,7 @@ ghost use Rattle.bench_c.specs.Bench as Bench;
 pub extern "C" fn bench_check(words: &[i16], bytes: &[u8]) -> u8
     ensures { result ≡ Tables.check words.now bytes.now }
 {
-    rules::check(words, bytes)
+    refusal::told(rules::check(words, bytes))
 }
 
 // Every 20 bytes a frame, decoded from reset, each over the samples of the one before; the mark that the last one leaves.

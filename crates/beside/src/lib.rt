@@ -28,13 +28,8 @@ pub fn begin(recorder: Recorder) -> Judge
 fn closed(recorder: Recorder) -> Recorder
     ensures { result ≡ Talk.closed recorder }
 {
-    let state = recorder.state;
     let line = hex_lines::empty();
-    Recorder {
-        first: recorder.first,
-        state,
-        line,
-    }
+    Recorder { line, ..recorder }
 }
 
 // What is unread of the recording, nothing being its end: up to a newline it is answered, over the beginning of text.
@@ -47,20 +42,16 @@ pub fn ours(words: &[i16], file: &[u8], judge: Judge, chunk: &[u8], text: &mut [
     ensures used { result.used ≤ length chunk.now }
 {
     let k = verdict::up_to(chunk);
-    let recorder = judge.recorder;
-    let fed = recording::answer(words, file, recorder, &chunk[..k], text);
+    let fed = recording::answer(words, file, judge.recorder, &chunk[..k], text);
     let said = fed.n;
-    let after = fed.recorder;
     if k == 0 {
-        let over = closed(after);
+        let over = closed(fed.recorder);
         return Heard {
             judge: Judge {
                 recorder: over,
-                number: judge.number,
                 said,
-                n: judge.n,
                 theirs: true,
-                told: judge.told,
+                ..judge
             },
             used: 0,
             n: 0,
@@ -68,12 +59,10 @@ pub fn ours(words: &[i16], file: &[u8], judge: Judge, chunk: &[u8], text: &mut [
     }
     Heard {
         judge: Judge {
-            recorder: after,
-            number: judge.number,
+            recorder: fed.recorder,
             said,
-            n: judge.n,
             theirs: 0 < said,
-            told: judge.told,
+            ..judge
         },
         used: k,
         n: 0,

@@ -2,12 +2,12 @@
 #![tactic(auto)]
 
 ghost use Rattle.std.specs.Prelude.{◌≡◌};
+ghost use Rattle.slot_users.specs.ByValue as ByValue;
 ghost use Rattle.best_save.specs.Best as Best;
 
-use slot_users::SLOTS;
-use slots::{Records, Slot};
+use slots::Slot;
 
-// The best so far: its slot, 16 for none, and its frame number.
+// A save: its slot, and its frame number.
 #[derive(Clone, Copy)]
 struct Save {
     at: usize,
@@ -15,41 +15,31 @@ struct Save {
 }
 
 // Slot j, with the record s, beside the best before it.
-#[tactic(auto, unfolding(crate::specs::Best::better, crate::specs::Best::fits, crate::specs::Best::beaten))]
-fn better(b: Save, j: usize, s: Slot, k: u32) -> Save
+#[tactic(auto, unfolding(crate::specs::Best::better, crate::specs::Best::fits, crate::specs::Best::beaten, crate::specs::Best::some_and))]
+fn better(b: Option<Save>, j: usize, s: Slot, k: u32) -> Option<Save>
     ensures { result ≡ Best.better k b j s }
 {
-    if s.users == 0 {
+    if s.users == 0 || k < s.frame {
         return b;
     }
-    if k < s.frame {
-        return b;
-    }
-    if b.at < SLOTS {
-        if s.frame <= b.frame {
+    if let Some(best) = b {
+        if s.frame <= best.frame {
             return b;
         }
     }
-    Save {
+    Some(Save {
         at: j,
         frame: s.frame,
-    }
+    })
 }
 
-// The slot of the best save, or 16 where none is held at or below k.
-pub fn best(r: Records, k: u32) -> usize
-    ensures { result ≡ Best.best r.slots k }
+// The slot of the best save, where one is held at or below k.
+pub fn best(slots: [Slot; 16], k: u32) -> Option<usize>
+    ensures { result ≡ ByValue.some_slot (Best.best slots k) }
 {
-    let slots = r.slots;
-    let mut b = Save {
-        at: SLOTS,
-        frame: 0,
-    };
-    let mut j = 0;
-    while j < SLOTS {
-        let s = slots[j];
-        b = better(b, j, s, k);
-        j += 1;
+    let mut b = None;
+    for (j, s) in slots.iter().enumerate() {
+        b = better(b, j, *s, k);
     }
-    b.at
+    b.map(|save| save.at)
 }

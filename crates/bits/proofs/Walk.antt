@@ -79,10 +79,9 @@ pub record Reading (f : ℕ → ℕ) (r v j t : ℕ) : Type 0 where
   pub rest : read v (map f (take t (drop j places))) ≡ r
 
 -- x is the next digit
-pub reading_more : (f : ℕ → ℕ) {r v j t x : ℕ} → Reading f r v j t → 0 < t → x ≡ f (get_or places j 0) → x < 2 → (v * 2 + x < 65536) × Reading f r (v * 2 + x) (j + 1) (t - 1)
-reading_more f {r} {v} {j} {t} {x} i h e b =
-    let s : t ≡ suc (t - 1) = omega arith in
-    let fits = room 16 t (t - 1) v x s i.few i.small b in (
+pub reading_more : (f : ℕ → ℕ) {r v j t t' x : ℕ} → Reading f r v j t → t ≡ suc t' → x ≡ f (get_or places j 0) → x < 2 → (v * 2 + x < 65536) × Reading f r (v * 2 + x) (j + 1) t'
+reading_more f {r} {v} {j} {t} {t'} {x} i s e b =
+    let fits = room 16 t t' v x s i.few i.small b in (
       fits.0,
       record {
         near = omega (arith, i.near);
@@ -99,10 +98,9 @@ pub record Writing (r bits : List ℕ) (v j t : ℕ) : Type 0 where
   pub rest : scatter bits (take t (drop j places)) (digits t v) ≡ r
 
 -- x goes to the next place, i
-pub writing_more : {r bits : List ℕ} {v j t i x : ℕ} → Writing r bits v j t → 0 < t → i ≡ get_or places j 0
-    → x ≡ (v / 2 ^ (t - 1) % 2 + inverted i) % 2 → Writing r (set bits i x) v (j + 1) (t - 1)
-writing_more {r} {bits} {v} {j} {t} {i} {x} w h e d =
-    let s : t ≡ suc (t - 1) = omega arith in
+pub writing_more : {r bits : List ℕ} {v j t t' i x : ℕ} → Writing r bits v j t → t ≡ suc t' → i ≡ get_or places j 0
+    → x ≡ (v / 2 ^ t' % 2 + inverted i) % 2 → Writing r (set bits i x) v (j + 1) t'
+writing_more {r} {bits} {v} {j} {t} {t'} {i} {x} w s e d =
     record {
       near = omega (arith, w.near);
       few = omega (arith, w.few);

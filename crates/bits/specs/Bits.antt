@@ -1,12 +1,14 @@
 -- A frame of 20 bytes and its 24 fields: post_fec.rs, bits.rs, and the two changes that mod.rs makes to what they read.
-use Rattle.std.specs.Prelude.{◌≡◌, refl, Bool, true, false, cond, List, [], ◌∷◌, ◌++◌, map, ℕ, zero, suc, ◌+◌, ◌*◌, ◌/◌, ◌%◌, ◌^◌, leb, eqb, length, get_or, set, replicate}
+use Rattle.std.specs.Prelude.{◌≡◌, refl, Bool, true, false, cond, List, [], ◌∷◌, ◌++◌, map, ℕ, zero, suc, ◌+◌, ◌*◌, ◌/◌, ◌%◌, ◌^◌, leb, eqb, length, get_or, set, replicate, Result}
+use Rattle.std.proofs.Common.{Ok, Err}
 use Rattle.std.specs.Int.Bits.{bit_and, bit_xor}
 use Rattle.sequence.specs.First.{first}
 use Rattle.sequence.specs.Table.{table}
 use Rattle.bits.specs.declared.HalfParams.{HalfParams}
 use Rattle.bits.specs.declared.FrameParams.{FrameParams}
-use Rattle.bits.specs.declared.Unpacked.{Unpacked}
-use Rattle.bits.specs.declared.Unpacked.TheVariants.{Fields, Refused}
+use Rattle.refusal.specs.declared.Refusal.{Refusal}
+use Rattle.refusal.specs.declared.Refusal.TheVariants.{FrameLength, Padding}
+use Rattle.refusal.specs.Numbers.{told}
 
 -- ---- the places
 
@@ -160,19 +162,18 @@ list f = half_list f.first ++ half_list f.second
 unfoldable pub fields_of : List ℕ → FrameParams
 fields_of p = frame_params (changed (gather (read_bit p)))
 
--- refused with 3 where the payload is not 20 bytes, with 6 where one of its last two bits is set
-unfoldable pub unpack : List ℕ → Unpacked
-unpack p = cond (eqb (length p) 20) (cond (eqb (bit_and (get_or p 19 0) 192) 0) (Fields (fields_of p)) (Refused 6)) (Refused 3)
+-- refused where the payload is not 20 bytes, and where one of its last two bits is set
+unfoldable pub unpack : List ℕ → Result FrameParams Refusal
+unpack p = cond (eqb (length p) 20) (cond (eqb (bit_and (get_or p 19 0) 192) 0) (Ok (fields_of p)) (Err Padding)) (Err FrameLength)
 
 -- document 01's number of an answer, 0 for acceptance
-abbrev pub number : Unpacked → ℕ
-number (Fields f) = 0
-number (Refused n) = n
+abbrev pub number : Result FrameParams Refusal → ℕ
+number u = told u
 
 -- and its fields, all zero on a refusal
-abbrev pub fields : Unpacked → FrameParams
-fields (Fields f) = f
-fields (Refused n) = frame_params (replicate 24 0)
+abbrev pub fields : Result FrameParams Refusal → FrameParams
+fields (Ok f) = f
+fields (Err why) = frame_params (replicate 24 0)
 
 -- in that paper's words: 3 where the payload is not 20 bytes, 6 where payload[19] & 0xc0 is not 0, else 0
 unfoldable pub refusal : List ℕ → ℕ

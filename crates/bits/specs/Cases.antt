@@ -1,13 +1,14 @@
 -- Document 01's marked case 13 and its last bytes, of the definitions.
 use Rattle.std.specs.Prelude.{◌≡◌, refl, List, ℕ, length, get_or, set, replicate}
+use Rattle.std.proofs.Common.{Ok, Err}
 use Rattle.sequence.specs.First.{first_from}
 use Rattle.sequence.specs.Table.{table}
 use Rattle.bits.specs.declared.FrameParams.{FrameParams}
-use Rattle.bits.specs.declared.Unpacked.TheVariants.{Fields, Refused}
+use Rattle.refusal.specs.declared.Refusal.TheVariants.{FrameLength, Padding}
 use Rattle.bits.specs.Bits.{groups, places, widths, inverted, bit_at, read_bit, gather, frame_params, fields_of, unpack, fields, spread, byte_of, frame_of, width_number, pack, packed}
 
 -- of the zero frame's fields the first half's stage2_low, field 8, is 1, and every other 0
-zero_frame : unpack (replicate 20 0) ≡ Fields (frame_params (set (replicate 24 0) 8 1))
+zero_frame : unpack (replicate 20 0) ≡ Ok (frame_params (set (replicate 24 0) 8 1))
 unfolding groups inverted bit_at read_bit gather fields_of unpack
 zero_frame = refl
 
@@ -19,20 +20,20 @@ pub case_13 : (zero.first.stage2_low ≡ 1) × (zero.second.stage2_low ≡ 0) ×
 case_13 = rw zero_frame (refl, refl, refl, refl)
 
 -- last byte 3f is accepted, 40 and 80 are refused
-pub accepted_3f : (p : List ℕ) → length p ≡ 20 → get_or p 19 0 ≡ 63 → unpack p ≡ Fields (fields_of p)
+pub accepted_3f : (p : List ℕ) → length p ≡ 20 → get_or p 19 0 ≡ 63 → unpack p ≡ Ok (fields_of p)
 unfolding unpack
 accepted_3f p l e = simp (l, e)
 
-pub refused_40 : (p : List ℕ) → length p ≡ 20 → get_or p 19 0 ≡ 64 → unpack p ≡ Refused 6
+pub refused_40 : (p : List ℕ) → length p ≡ 20 → get_or p 19 0 ≡ 64 → unpack p ≡ Err Padding
 unfolding unpack
 refused_40 p l e = simp (l, e)
 
-pub refused_80 : (p : List ℕ) → length p ≡ 20 → get_or p 19 0 ≡ 128 → unpack p ≡ Refused 6
+pub refused_80 : (p : List ℕ) → length p ≡ 20 → get_or p 19 0 ≡ 128 → unpack p ≡ Err Padding
 unfolding unpack
 refused_80 p l e = simp (l, e)
 
 -- a payload of another length is refused with 3, whatever its last byte
-refused_short : unpack (replicate 19 255) ≡ Refused 3
+refused_short : unpack (replicate 19 255) ≡ Err FrameLength
 unfolding unpack
 refused_short = refl
 

@@ -1,12 +1,11 @@
 -- The unpacker gives back what was packed, and the packer what was unpacked.
 use Rattle.std.specs.Prelude.{◌≡◌, refl, List, [], ◌∷◌, map, ℕ, zero, suc, ◌+◌, ◌%◌, ◌≤◌, ◌<◌, length, get_or, replicate}
-use Rattle.std.proofs.Common.{sym, ap, ap₂, ◌∙◌, ⊎_elim, eq-or-lt_of_le, arith, lit<, lit≤}
+use Rattle.std.proofs.Common.{Ok, sym, ap, ap₂, ◌∙◌, ⊎_elim, eq-or-lt_of_le, arith, lit<, lit≤}
 use Rattle.std.proofs.Math.Decide.{dec_lt}
 use Rattle.std.specs.Int.Bits.{bit_and}
 use Rattle.std.proofs.lemmas.List.{get_or-replicate}
 use Rattle.sequence.specs.Table.{table, length_table}
 use Rattle.bits.specs.declared.FrameParams.{FrameParams}
-use Rattle.bits.specs.declared.Unpacked.TheVariants.{Fields}
 use Rattle.bits.specs.Bits.{groups, places, widths, inverted, bit_at, read_bit, gather, changed, frame_params, list, fields_of, unpack, spell, scatter, spread, byte_of, frame_of, width_number, pack, packed}
 use Rattle.bits.specs.Digits.{Digits, Within, read_spell, spell_read, length_spell, spell_digits}
 use Rattle.bits.specs.Places.{count, places_count, place_below, place_once, groups_count, widths_count}
@@ -73,14 +72,14 @@ unfolding places groups
 frame_accepted f =
     bits_mask (frame_of f) (frame_bit f 158 (lit< tt) ∙ last (changed (list f)) 158 (lit< tt) refl) (frame_bit f 159 (lit< tt) ∙ last (changed (list f)) 159 (lit< tt) refl)
 
-pub unpack_pack : (f : FrameParams) (out : List ℕ) → pack f out ≡ 0 → unpack (packed f out) ≡ Fields f
+pub unpack_pack : (f : FrameParams) (out : List ℕ) → pack f out ≡ 0 → unpack (packed f out) ≡ Ok f
 unfolding unpack packed
 unpack_pack f out e =
     let l : length (frame_of f) ≡ 20 = length_frame f in
     simp (e, l, frame_accepted f, fields_frame f (pack_accepted f out e).1)
 
 -- all fields within their widths are packed, and unpacking gives them back
-pub packs : (f : FrameParams) (out : List ℕ) → InWidths f.first → InWidths f.second → length out ≡ 20 → (pack f out ≡ 0) × (unpack (packed f out) ≡ Fields f)
+pub packs : (f : FrameParams) (out : List ℕ) → InWidths f.first → InWidths f.second → length out ≡ 20 → (pack f out ≡ 0) × (unpack (packed f out) ≡ Ok f)
 unfolding pack
 packs f out x y l =
     let e : pack f out ≡ 0 = simp (l, width_accepts (list f) (names_within f x y)) in
@@ -115,7 +114,7 @@ frame_fields p l h m =
     ∙ bytes_of_bits (spread fs) p 20 l h (λ i s. rw (spread_gather p) (scatter_read 160 (bit_at p) (replicate 160 0) places refl (bit_lt p) (outside p m) i s))
 
 -- p is a list of bytes, as a payload is
-pub pack_unpack : (p : List ℕ) (f : FrameParams) (out : List ℕ) → ((k : ℕ) → get_or p k 0 < 256) → length out ≡ 20 → unpack p ≡ Fields f
+pub pack_unpack : (p : List ℕ) (f : FrameParams) (out : List ℕ) → ((k : ℕ) → get_or p k 0 < 256) → length out ≡ 20 → unpack p ≡ Ok f
     → (pack f out ≡ 0) × (packed f out ≡ p)
 unfolding pack packed
 pack_unpack p f out h l e =

@@ -62,7 +62,7 @@ const WIDTHS: [u8; 24] = [
     4, 4, 16, 16, 3, 3, 1, 7, 6, 6, 8, 5, 4, 4, 16, 16, 3, 3, 1, 7, 6, 6, 8, 5,
 ];
 
-#[derive(Clone, Copy)]
+#[derive(Clone, Copy, Default)]
 pub struct HalfParams {
     pub gain_low0: u16,
     pub gain_low1: u16,
@@ -78,28 +78,10 @@ pub struct HalfParams {
     pub relative_pitch: u16,
 }
 
-#[derive(Clone, Copy)]
+#[derive(Clone, Copy, Default)]
 pub struct FrameParams {
     pub first: HalfParams,
     pub second: HalfParams,
-}
-
-#[derive(Clone, Copy)]
-pub enum Unpacked {
-    Fields(FrameParams),
-    Refused(u8),
-}
-
-fn wide(x: u8) -> usize
-    ensures { result ≡ x }
-{
-    x as usize
-}
-
-fn word(x: u8) -> u16
-    ensures { result ≡ x }
-{
-    x as u16
 }
 
 // The table is lent, since a constant that is read in a loop is made anew at each turn.
@@ -107,14 +89,14 @@ fn place(places: &[u8], j: usize) -> usize
     requires { (places.now ≡ Bits.places) × (j < 158) }
     ensures { result ≡ get_or Bits.places j 0 }
 {
-    wide(places[j])
+    usize::from(places[j])
 }
 
 pub fn width(k: usize) -> usize
     requires { k < 24 }
     ensures { result ≡ get_or Bits.widths k 0 }
 {
-    wide(WIDTHS[k])
+    usize::from(WIDTHS[k])
 }
 
 // 1 where frame bit i is inverted on reading, else 0.
@@ -146,13 +128,9 @@ fn read(places: &[u8], payload: &[u8], at: usize, width: usize) -> u16
     requires { (places.now ≡ Bits.places) × (length payload.now ≡ 20) × (at + width ≤ 158) × (width ≤ 16) }
     ensures { result ≡ Bits.read 0 (map (Bits.read_bit payload.now) (take width (drop at Bits.places))) }
 {
-    let mut v: u16 = 0;
-    let mut j = at;
-    let mut t = width;
-    while 0 < t {
-        v = v * 2 + word(bit(payload, place(places, j)));
-        j += 1;
-        t -= 1;
+    let mut v = 0;
+    for j in at..at + width {
+        v = v * 2 + u16::from(bit(payload, place(places, j)));
     }
     v
 }
@@ -165,12 +143,10 @@ pub fn gather(payload: &[u8]) -> [u16; 24]
     let places = PLACES;
     let mut fields = [0u16; 24];
     let mut at: usize = 0;
-    let mut k: usize = 0;
-    while k < 24 {
+    for k in 0..24 {
         let w = width(k);
         fields[k] = read(&places[..], payload, at, w);
         at += w;
-        k += 1;
     }
     fields
 }
@@ -187,13 +163,9 @@ fn write(places: &[u8], bits: &mut [u8; 160], at: usize, width: usize, v: u16)
     requires { (places.now ≡ Bits.places) × (at + width ≤ 158) × (width ≤ 16) }
     ensures { bits.new ≡ Bits.scatter bits.old (take width (drop at Bits.places)) (Bits.digits width v) }
 {
-    let mut j = at;
-    let mut t = width;
-    while 0 < t {
-        t -= 1;
-        let i = place(places, j);
-        bits[i] = (digit(v, t) + inverted(i)) % 2;
-        j += 1;
+    for k in 0..width {
+        let i = place(places, at + k);
+        bits[i] = (digit(v, width - 1 - k) + inverted(i)) % 2;
     }
 }
 
@@ -204,13 +176,11 @@ pub fn spread(fields: [u16; 24]) -> [u8; 160]
     let places = PLACES;
     let mut bits = [0u8; 160];
     let mut at: usize = 0;
-    let mut k: usize = 0;
-    while k < 24 {
+    for k in 0..24 {
         let w = width(k);
         let v = fields[k];
         write(&places[..], &mut bits, at, w, v);
         at += w;
-        k += 1;
     }
     bits
 }
@@ -220,10 +190,8 @@ fn byte(bits: &[u8; 160], b: usize) -> u8
     requires { (b < 20) × ((k : ℕ) → get_or bits.now k 0 < 2) }
     ensures { result ≡ Bits.byte_of bits.now b }
 {
-    let mut v: u8 = 0;
-    let mut t: usize = 8;
-    while 0 < t {
-        t -= 1;
+    let mut v = 0;
+    for t in (0..8).rev() {
         v = v * 2 + bits[b * 8 + t];
     }
     v
@@ -234,9 +202,7 @@ pub fn put_bytes(bits: &[u8; 160], out: &mut [u8])
     requires { (length out.old ≡ 20) × ((k : ℕ) → get_or bits.now k 0 < 2) }
     ensures { out.new ≡ table (Bits.byte_of bits.now) 20 }
 {
-    let mut b: usize = 0;
-    while b < 20 {
+    for b in 0..20 {
         out[b] = byte(bits, b);
-        b += 1;
     }
 }

@@ -1,6 +1,7 @@
 -- Document 01's marked cases and its last bytes, as one table and one statement, `MarkedCases`; what stands in quotes is its text. `marked-cases` is the proof.
 -- The cases are of the definitions that the code is proved to meet. `pos n` is the integer n.
 use Rattle.std.specs.Prelude.{◌≡◌, List, [], ◌∷◌, map, false, ℕ, ◌^◌, ◌*◌, ℤ, pos, neg_ℤ, length, get_or, replicate, Float}
+use Rattle.std.proofs.Common.{Ok, Err}
 use Rattle.std.specs.Float.{fin, binary32}
 use Rattle.std.specs.Float.Ieee.{of_int}
 use Rattle.fixed.specs.Fixed as Fixed
@@ -12,7 +13,7 @@ use Rattle.tables.specs.Bare.{bare_words}
 use Rattle.bits.specs.Bits as Bits
 use Rattle.bits.specs.Cases as BitsCases
 use Rattle.bits.specs.declared.FrameParams.{FrameParams}
-use Rattle.bits.specs.declared.Unpacked.TheVariants.{Fields, Refused}
+use Rattle.refusal.specs.declared.Refusal.TheVariants.{Padding}
 use Rattle.lsp.specs.Lsp as Lsp
 use Rattle.lsp.specs.Cases as LspCases
 use Rattle.reflection.specs.Reflection as Levinson
@@ -92,9 +93,9 @@ pub record MarkedCases : Type 0 where
   -- "Last byte 3f is accepted, 40 and 80 refused." Of every payload of 20 bytes
   pub last_bytes : (payload : List ℕ)
       → length payload ≡ 20
-      → (get_or payload 19 0 ≡ 0x3f → Bits.unpack payload ≡ Fields (Bits.fields_of payload))
-      × (get_or payload 19 0 ≡ 0x40 → Bits.unpack payload ≡ Refused 6)
-      × (get_or payload 19 0 ≡ 0x80 → Bits.unpack payload ≡ Refused 6)
+      → (get_or payload 19 0 ≡ 0x3f → Bits.unpack payload ≡ Ok (Bits.fields_of payload))
+      × (get_or payload 19 0 ≡ 0x40 → Bits.unpack payload ≡ Err Padding)
+      × (get_or payload 19 0 ≡ 0x80 → Bits.unpack payload ≡ Err Padding)
 
 pub marked_cases : MarkedCases
 marked_cases =

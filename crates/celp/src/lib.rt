@@ -11,6 +11,7 @@ ghost use Rattle.calls.specs.Frames as Frames;
 
 use answers::{accepted, carried, refused};
 use calls::Answer;
+use refusal::told;
 use refusals::{checked, frame_sizes, frames_sizes, spoilt};
 use state::{Returned, State};
 use tables::Fault;
@@ -31,13 +32,14 @@ fn answered(
     ensures samples { samples.new ≡ Celp.samples words.now bytes.now state payload.now samples.old }
 {
     let f = frame_params::fields(frame_params::unpack(payload));
-    let why = spoilt(words, payload, f);
-    if why != 0 {
-        return refused(why, Fault { rule: 0, place: 0 }, state);
+    match spoilt(words, payload, f) {
+        Err(why) => refused(why.number(), Fault { rule: 0, place: 0 }, state),
+        Ok(()) => {
+            let residuals = state.residuals;
+            let d = frame::decode(words, bytes, carried(state), residuals, f, samples);
+            accepted(state.mark, state.sure, d)
+        }
     }
-    let residuals = state.residuals;
-    let d = frame::decode(words, bytes, carried(state), residuals, f, samples);
-    accepted(state.mark, state.sure, d)
 }
 
 // A frame: what it is answered with. The samples are written where it is accepted.
@@ -51,12 +53,8 @@ pub fn decode(
     ensures answer { result ≡ Celp.decode words.now bytes.now state payload.now (length samples.old) }
     ensures samples { samples.new ≡ Celp.samples words.now bytes.now state payload.now samples.old }
 {
-    let why = checked(
-        words,
-        bytes,
-        state,
-        frame_sizes(payload.len(), samples.len()),
-    );
+    let sizes = told(frame_sizes(payload.len(), samples.len()));
+    let why = checked(words, bytes, state, sizes);
     if why != 0 {
         return refused(why, state::fault(why, words, bytes), state);
     }
@@ -67,10 +65,9 @@ pub fn decode(
 fn are_words(words: &[i16])
     ensures { Words16 words.now }
 {
-    let mut i = 0;
-    while i < words.len() {
+    // By index: it is the place that a word is asked at.
+    for i in 0..words.len() {
         tables::word(words, i);
-        i += 1;
     }
 }
 
@@ -93,8 +90,8 @@ fn each(
     ensures numbers { numbers.new ≡ Frames.numbers words.now bytes.now start (Frames.frames payloads.now) }
 {
     let mut state = start;
-    let mut k = 0;
-    while k < numbers.len() {
+    // By index: a frame, its samples and its number each stand at a place of their own.
+    for k in 0..numbers.len() {
         let at = 20 * k;
         let end = at + 20;
         let from = 320 * k;
@@ -109,7 +106,6 @@ fn each(
         numbers[k] = a.number;
         let next = a.state;
         state = next;
-        k += 1;
     }
     state
 }
@@ -127,14 +123,14 @@ pub fn decode_frames(
     ensures samples { samples.new ≡ Frames.frames_samples words.now bytes.now state payloads.now samples.old (length numbers.old) }
     ensures numbers { numbers.new ≡ Frames.frames_numbers words.now bytes.now state payloads.now (length samples.old) numbers.old }
 {
-    let sizes = frames_sizes(payloads.len(), samples.len(), numbers.len());
+    let sizes = told(frames_sizes(payloads.len(), samples.len(), numbers.len()));
     let number = checked(words, bytes, state, sizes);
     if number != 0 {
-        let told = state::fault(number, words, bytes);
+        let Fault { rule, place } = state::fault(number, words, bytes);
         return Returned {
             number,
-            rule: told.rule,
-            place: told.place,
+            rule,
+            place,
             state: state::marked(state, 0, 0),
         };
     }

@@ -57,6 +57,7 @@ pub struct Fed {
 }
 
 // The start: the table file's refusal number, how long its text is, and where the recording stands.
+// A number beside the recorder: the definition `Feed.started`, on which `program_told` stands, gives both for every file.
 #[derive(Clone, Copy)]
 pub struct Started {
     pub recorder: Recorder,

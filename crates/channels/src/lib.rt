@@ -135,10 +135,7 @@ fn feed(words: &[i16], bytes: &[u8], recorder: Recorder, chunk: &[u8], room: &mu
     let mut channels = recorder.channels;
     let mut line = recorder.line;
     let mut n = 0;
-    let mut at = 0;
-    while at < chunk.len() {
-        let b = chunk[at];
-        at += 1;
+    for &b in chunk {
         if b == b'\n' {
             let ended = end_line(words, bytes, channels, line, &mut room[n..]);
             n += ended.n;

@@ -1,5 +1,5 @@
 -- The search for the class from 5 down: the test at k is that of `first` at 5 - k.
-use Prim.Native.Nat.{ℕ, zero, suc, ◌+◌, ◌-◌, ◌≤◌, ◌<◌}
+use Prim.Native.Nat.{ℕ, ◌+◌, ◌-◌, ◌≤◌, ◌<◌}
 use mathlib.Core.Path.{◌≡◌, refl, sym, ap, ◌∙◌}
 use mathlib.Core.List.{List}
 use mathlib.Core.Bool.{Bool, true, false}
@@ -9,7 +9,6 @@ use lib.IntN.{ℤ}
 use borrow.Author.Tests.{le-leb, lt-leb}
 use Rattle.sequence.specs.First.{first, first_from, first_more, first_found}
 use Rattle.tables.specs.Tables.{base}
-use Rattle.tables.specs.SoundWords.{SoundWords}
 use Rattle.code_index.specs.Codebook.{class_of}
 
 module _ (words : List ℤ) (index : ℕ) where
@@ -37,8 +36,3 @@ module _ (words : List ℤ) (index : ℕ) where
       let t : reached (5 - k) ≡ true = le-leb (base words (5 - (5 - k))) index (rw e h) in
       let q : first reached 6 ≡ 5 - k = a.1 ∙ first_found reached (5 - k) 6 (omega arith) t in
       sym (ap (λ (n : ℕ). 5 - n) q ∙ e)
-
--- class 0 is always reached
-pub not_lowest : (words : List ℤ) (index k : ℕ) → SoundWords words → index < base words k → 1 ≤ k
-not_lowest words index zero c h = absurd (omega (arith, c.rules.base_zero))
-not_lowest words index (suc k) c h = omega arith

@@ -1,7 +1,8 @@
 // A code index taken apart: its class, its place in it, and the positions' digits; and refusal 7, by them.
 #![tactic(auto)]
 
-ghost use Rattle.std.specs.Prelude.{◌≡◌, true, ◌+◌, ◌-◌, ◌<◌, length};
+ghost use Rattle.std.specs.Prelude.{◌≡◌, ◌+◌, ◌-◌, ◌<◌, length};
+ghost use Rattle.std.specs.List.{list_all};
 ghost use Rattle.tables.specs.Places.{WORDS};
 ghost use Rattle.tables.specs.SoundWords.{SoundWords};
 ghost use Rattle.code_index.specs.Codebook as Codebook;
@@ -34,12 +35,13 @@ pub struct Classified {
 }
 
 // The index, cut to the limit less one.
+#[tactic(auto, unfolding(crate::specs::Codebook::cut))]
 fn cut(words: &[i16], index: u16) -> u16
     requires { SoundWords words.now }
     ensures { result ≡ Codebook.cut words.now index }
 {
     let last = unsigned_word(words, FCB_INDEX_LIMIT) - 1;
-    if index < last { index } else { last }
+    index.min(last)
 }
 
 // A cut index's class: the first, from the highest down, whose base it reaches.
@@ -47,13 +49,12 @@ fn class_of(words: &[i16], index: u16) -> usize
     requires { SoundWords words.now }
     ensures { result ≡ Codebook.class_of words.now index }
 {
-    let mut k = ALT_CLASS;
-    loop {
+    for k in (0..=ALT_CLASS).rev() {
         if unsigned_word(words, FCB_CLASS_BASE + k) <= index {
-            break k;
+            return k;
         }
-        k -= 1;
     }
+    0
 }
 
 // The class that an index selects.
@@ -77,7 +78,7 @@ fn quotient(words: &[i16], class: usize, k: usize, x: i16) -> i16
     ensures { result ≡ Codebook.quotient words.now class k x }
 {
     let y = word(words, FCB_RADIX_INV + MAX_PULSES * class + k);
-    (((x as i64) * (y as i64)) >> 17) as i16
+    ((i64::from(x) * i64::from(y)) >> 17) as i16
 }
 
 // What that leaves of x.
@@ -89,7 +90,7 @@ fn remainder(words: &[i16], class: usize, k: usize, x: i16) -> i16
 {
     let q = quotient(words, class, k, x);
     let y = word(words, FCB_RADIX + MAX_PULSES * class + k);
-    fixed::low((x as i64) - (q as i64) * (y as i64))
+    fixed::low(i64::from(x) - i64::from(q) * i64::from(y))
 }
 
 // How many pulses a class has.
@@ -97,7 +98,7 @@ pub fn pulses(words: &[i16], class: usize) -> usize
     requires { (length words.now ≡ WORDS) × (class < 5) }
     ensures { result ≡ Codebook.pulses words.now class }
 {
-    unsigned_word(words, FCB_PULSES + class) as usize
+    usize::from(unsigned_word(words, FCB_PULSES + class))
 }
 
 // The position digits of the pulses, the last pulse's first.
@@ -106,13 +107,11 @@ pub fn decompose(words: &[i16], class: usize, rest: u16) -> [i16; MAX_PULSES]
     requires fact_2 { class < 5 }
     ensures { result ≡ Codebook.decompose words.now class rest }
 {
-    let mut k = pulses(words, class);
-    let mut x = (rest >> k) as i16;
+    let n = pulses(words, class);
+    let mut x = (rest >> n) as i16;
     let mut positions = [0i16; MAX_PULSES];
-    while 0 < k {
-        k -= 1;
-        let p = remainder(words, class, k, x);
-        positions[k] = p;
+    for k in (0..n).rev() {
+        positions[k] = remainder(words, class, k, x);
         x = quotient(words, class, k, x);
     }
     positions
@@ -122,20 +121,14 @@ pub fn decompose(words: &[i16], class: usize, rest: u16) -> [i16; MAX_PULSES]
 fn slot_fits(slot: i16) -> bool
     ensures { result ≡ Codebook.slot_fits slot }
 {
-    if 0 <= slot { slot <= 39 } else { false }
+    0 <= slot && slot <= 39
 }
 
 // Whether all are. Where there is no pulse the digit is 0.
 fn slots_fit(positions: [i16; MAX_PULSES]) -> bool
-    ensures { result ≡ Codebook.slots_fit positions }
+    ensures { result ≡ list_all Codebook.slot_fits positions }
 {
-    if !slot_fits(positions[0]) {
-        return false;
-    }
-    if !slot_fits(positions[1]) {
-        return false;
-    }
-    slot_fits(positions[2])
+    positions.iter().all(|slot| slot_fits(*slot))
 }
 
 // Whether refusal 7 has nothing against an index.
@@ -144,9 +137,5 @@ pub fn digits_fit(words: &[i16], index: u16) -> bool
     ensures { result ≡ Codebook.digits_fit words.now index }
 {
     let c = classify(words, index);
-    let class = c.class;
-    if class == ALT_CLASS {
-        return true;
-    }
-    slots_fit(decompose(words, class, c.rest))
+    c.class == ALT_CLASS || slots_fit(decompose(words, c.class, c.rest))
 }

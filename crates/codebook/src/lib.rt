@@ -25,9 +25,9 @@ fn sum(add: bool, x: i16, y: i16) -> i16
     ensures { result ≡ Codebook.sum add x y }
 {
     if add {
-        fixed::low((x as i64) + (y as i64))
+        fixed::low(i64::from(x) + i64::from(y))
     } else {
-        fixed::low((x as i64) - (y as i64))
+        fixed::low(i64::from(x) - i64::from(y))
     }
 }
 
@@ -35,13 +35,7 @@ fn sum(add: bool, x: i16, y: i16) -> i16
 fn span(start: usize) -> usize
     ensures { result ≡ min 20 (80 - start) }
 {
-    if start < SUBFRAME - SHAPE_LEN {
-        return SHAPE_LEN;
-    }
-    if start < SUBFRAME {
-        return SUBFRAME - start;
-    }
-    0
+    SHAPE_LEN.min(SUBFRAME.saturating_sub(start))
 }
 
 // A shape, from place start on, cut at the end.
@@ -85,8 +79,8 @@ fn place_slot(
     ensures { code.new ≡ Codebook.place_slot words.now class k slot add code.old }
 {
     let at = POSITIONS * (MAX_PULSES * class + k) + (slot as usize);
-    let start = unsigned_word(words, FCB_POSITIONS + at) as usize;
-    let shape = (unsigned_word(words, FCB_SHAPE_SEL + MAX_PULSES * class) as usize) + k;
+    let start = usize::from(unsigned_word(words, FCB_POSITIONS + at));
+    let shape = usize::from(unsigned_word(words, FCB_SHAPE_SEL + MAX_PULSES * class)) + k;
     place_shape(words, shape, start, add, code);
 }
 
@@ -117,11 +111,7 @@ fn place_of(entry: i16) -> usize
     requires fact_2 { nat_abs entry ≤ 80 }
     ensures { result ≡ nat_abs entry - 1 }
 {
-    if entry < 0 {
-        (-1 - entry) as usize
-    } else {
-        (entry - 1) as usize
-    }
+    usize::from(entry.unsigned_abs()) - 1
 }
 
 // One pulse of the twin book.
@@ -142,8 +132,8 @@ fn place_pulses(words: &[i16], row: usize, code: &mut [i16; SUBFRAME])
     requires fact_3 { row + 5 ≤ LSF_CB1 }
     ensures { code.new ≡ Codebook.place_pulses words.now row code.old }
 {
-    for k in 0..ALT_PULSES {
-        place_pulse(word(words, row + k), code);
+    for entry in &words[row..row + ALT_PULSES] {
+        place_pulse(*entry, code);
     }
 }
 
@@ -152,7 +142,7 @@ fn alternative(words: &[i16], rest: u16, code: &mut [i16; SUBFRAME])
     requires { SoundWords words.now }
     ensures { code.new ≡ Codebook.alternative words.now rest code.old }
 {
-    let r = rest as usize;
+    let r = usize::from(rest);
     place_pulses(words, FCB_ALT_A + ALT_PULSES * (r / 128), code);
     place_pulses(words, FCB_ALT_B + ALT_PULSES * (r % 128), code);
 }

@@ -1,8 +1,13 @@
 -- The player's commands: what a line says.
 use Rattle.std.specs.Prelude.{ℕ, ◌+◌, ◌-◌, ◌*◌, ◌≤◌, min, ◌≡◌, refl, List, [], ◌∷◌, Bool, true, false, ◌&&◌, cond, eqb, ltb, length, get_or, take, drop}
-use Rattle.std.proofs.Common.{arith, eq-eqb, ne_eqb}
-use Rattle.sequence.specs.First.{first}
-use Rattle.commands.specs.declared.Command.{Command}
+use Rattle.std.proofs.Common.{arith, sym, eq-eqb, ne_eqb}
+use borrow.Author.Tests.{eqb-true, eqb-false}
+use Rattle.sequence.specs.First.{first, first_le, first_before, first_at}
+use Rattle.std.specs.Cmp.Lexicographic.{pointwise}
+use Rattle.std.specs.List.{position_or_len}
+use Rattle.std.proofs.lemmas.List.Sums.{position_or_len_is}
+use Rattle.commands.specs.declared.Command as Program
+use Rattle.commands.specs.declared.Command.TheVariants.{Save, Hold, LetGo, Seek, Play, Unknown}
 
 -- ---- a number: one or more decimal digits and nothing else, at most 4,294,967,295; one more than that stands for none
 abbrev pub NONE : ℕ
@@ -43,9 +48,23 @@ argument name line = cond (starts name line) (number (drop (length name) line)) 
 unfoldable pub blank : List ℕ → ℕ
 blank text = first (λ i. eqb (get_or text i 0) 32) (length text)
 
--- kinds: 0 unknown, 1 save, 2 hold, 3 let go, 4 seek, 5 play
+-- a command by its kind and its numbers, 0 where it has none; kinds: 0 unknown, 1 save, 2 hold, 3 let go, 4 seek, 5 play
+pub record Command : Type 0 where
+  pub kind : ℕ
+  pub k : ℕ
+  pub n : ℕ
+
 abbrev pub unknown : Command
 unknown = record { kind = 0; k = 0; n = 0 }
+
+-- that of the program
+abbrev pub told : Program.Command → Command
+told (Save k) = record { kind = 1; k = k; n = 0 }
+told (Hold k) = record { kind = 2; k = k; n = 0 }
+told (LetGo k) = record { kind = 3; k = k; n = 0 }
+told (Seek k) = record { kind = 4; k = k; n = 0 }
+told (Play k n) = record { kind = 5; k = k; n = n }
+told Unknown = unknown
 
 -- two numbers with a blank between them
 unfoldable pub playing : List ℕ → Command
@@ -80,6 +99,27 @@ command line =
     (cond (starts play line) (playing (drop 5 line)) unknown))))
 
 -- ---- laws
+-- it is the library's test and place
+pub starts_is : (name line : List ℕ) → pointwise eqb name (take (length name) line) ≡ starts name line
+unfolding starts
+starts_is [] line = refl
+starts_is (c ∷ name) [] = refl
+starts_is (c ∷ name) (b ∷ line) = by (eqb b c) refl (starts_is name line)
+  where
+    by : (t : Bool) → eqb b c ≡ t → pointwise eqb name (take (length name) line) ≡ starts name line → (eqb c b && pointwise eqb name (take (length name) line)) ≡ (eqb b c && starts name line)
+    by true e r = let q = eqb-true b c e in rw (e, eq-eqb c b (sym q)) r
+    by false e r = rw (e, ne_eqb c b (λ w. eqb-false b c e (sym w)))
+
+pub blank_is : (text : List ℕ) → position_or_len (λ b. eqb b 32) text ≡ blank text
+unfolding blank
+blank_is text =
+    let f : ℕ → Bool = λ i. eqb (get_or text i 0) 32 in
+    position_or_len_is (λ b. eqb b 32) text (first f (length text)) 0 (first_le f (length text)) (λ k h. first_before f (length text) k h) (λ h. first_at f (length text) h)
+
+pub blank_le : (text : List ℕ) → blank text ≤ length text
+unfolding blank
+blank_le text = first_le (λ i. eqb (get_or text i 0) 32) (length text)
+
 pub starts_none : (line : List ℕ) → starts [] line ≡ true
 unfolding starts
 starts_none line = refl

@@ -8,28 +8,18 @@ ghost use Rattle.commands.specs.Commands as Commands;
 
 use hex_lines::Line;
 
-// Stands for no number: one more than the largest.
+// Stands for no number: one more than the largest, as `Commands.number` says it.
 const NONE: u64 = 4294967296;
 
-// What a command may be.
-const UNKNOWN: u8 = 0;
-
-pub const SAVE: u8 = 1;
-
-pub const HOLD: u8 = 2;
-
-pub const LET_GO: u8 = 3;
-
-pub const SEEK: u8 = 4;
-
-pub const PLAY: u8 = 5;
-
-// A command and its numbers, 0 where it has none.
-#[derive(Drop)]
-pub struct Command {
-    pub kind: u8,
-    pub k: u32,
-    pub n: u32,
+// A command and its numbers.
+#[derive(Clone, Copy)]
+pub enum Command {
+    Save(u32),
+    Hold(u32),
+    LetGo(u32),
+    Seek(u32),
+    Play(u32, u32),
+    Unknown,
 }
 
 // A digit more.
@@ -43,7 +33,7 @@ fn more(v: u64, c: u8) -> u64
     if 57 < c {
         return NONE;
     }
-    let m = 10 * v + ((c - 48) as u64);
+    let m = 10 * v + u64::from(c - 48);
     if m < NONE { m } else { NONE }
 }
 
@@ -55,10 +45,8 @@ fn number(text: &[u8]) -> u64
         return NONE;
     }
     let mut v = 0;
-    let mut i = 0;
-    while i < text.len() {
-        v = more(v, text[i]);
-        i += 1;
+    for c in text {
+        v = more(v, *c);
     }
     v
 }
@@ -67,17 +55,7 @@ fn number(text: &[u8]) -> u64
 fn starts(line: &[u8], name: &[u8]) -> bool
     ensures { result ≡ Commands.starts name.now line.now }
 {
-    let mut i = 0;
-    while i < name.len() {
-        if line.len() <= i {
-            return false;
-        }
-        if line[i] != name[i] {
-            return false;
-        }
-        i += 1;
-    }
-    true
+    line.starts_with(name)
 }
 
 // The one number behind a name.
@@ -95,97 +73,61 @@ fn argument(line: &[u8], name: &[u8]) -> u64
 fn blank(text: &[u8]) -> usize
     ensures { (result ≡ Commands.blank text.now) × IsPrefixLen result text.now }
 {
-    let mut i = 0;
-    while i < text.len() {
-        if text[i] == b' ' {
-            return i;
-        }
-        i += 1;
-    }
-    i
-}
-
-fn unknown() -> Command
-    ensures { result ≡ Commands.unknown }
-{
-    Command {
-        kind: UNKNOWN,
-        k: 0,
-        n: 0,
-    }
+    text.iter().position(|c| *c == b' ').unwrap_or(text.len())
 }
 
 // Two numbers with a blank between them.
 fn playing(text: &[u8]) -> Command
-    ensures { result ≡ Commands.playing text.now }
+    ensures { Commands.told result ≡ Commands.playing text.now }
 {
     let b = blank(text);
     if text.len() <= b {
-        return unknown();
+        return Command::Unknown;
     }
     let a = b + 1;
     let k = number(&text[..b]);
     let n = number(&text[a..]);
     if k == NONE {
-        return unknown();
+        return Command::Unknown;
     }
     if n == NONE {
-        return unknown();
+        return Command::Unknown;
     }
-    Command {
-        kind: PLAY,
-        k: k as u32,
-        n: n as u32,
-    }
+    Command::Play(k as u32, n as u32)
 }
 
+// What a line says.
 fn parse(line: &[u8]) -> Command
-    ensures { result ≡ Commands.command line.now }
+    ensures { Commands.told result ≡ Commands.command line.now }
 {
     let s = argument(line, b"save ");
     if s < NONE {
-        return Command {
-            kind: SAVE,
-            k: s as u32,
-            n: 0,
-        };
+        return Command::Save(s as u32);
     }
     let h = argument(line, b"hold ");
     if h < NONE {
-        return Command {
-            kind: HOLD,
-            k: h as u32,
-            n: 0,
-        };
+        return Command::Hold(h as u32);
     }
     let g = argument(line, b"let go ");
     if g < NONE {
-        return Command {
-            kind: LET_GO,
-            k: g as u32,
-            n: 0,
-        };
+        return Command::LetGo(g as u32);
     }
     let k = argument(line, b"seek ");
     if k < NONE {
-        return Command {
-            kind: SEEK,
-            k: k as u32,
-            n: 0,
-        };
+        return Command::Seek(k as u32);
     }
     if starts(line, b"play ") {
         return playing(&line[5..]);
     }
-    unknown()
+    Command::Unknown
 }
 
 // The command that is held of a line.
 pub fn read(line: Line) -> Command
-    ensures { result ≡ Commands.command (Held.held_line line) }
+    ensures { Commands.told result ≡ Commands.command (Held.held_line line) }
 {
     if 40 < line.n {
-        return unknown();
+        return Command::Unknown;
     }
     let text = line.text;
     let n = line.n;

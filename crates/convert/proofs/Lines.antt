@@ -1,29 +1,26 @@
 -- A line or its refusal, by the answer of receiver's calls; and what hex tells of 40 bytes that are copied into its line.
-use Prim.Native.Nat.{ℕ, zero, suc, ◌≤◌}
-use mathlib.Core.Path.{◌≡◌, refl, ap, ◌∙◌}
+use Prim.Native.Nat.{ℕ, ◌≤◌}
+use mathlib.Core.Path.{◌≡◌, refl, sym, ap, ◌∙◌}
 use mathlib.Core.Bool.{Bool}
 use mathlib.Core.List.{List, [], ◌∷◌, ◌++◌, append-nil}
 use native.Mathlib.Omega.{arith}
-use borrow.Author.Tests.{ne_eqb}
 use lib.ListN.{length, replicate, drop_of_length-le}
 use Rattle.stream.specs.Held.{shown_whole}
 use Rattle.stream.specs.Room.{over}
 use Rattle.stream.specs.Decimal.{figure_long}
 use Rattle.hex_lines.specs.Text.{is_frame}
 use Rattle.hex_lines.specs.Held.{held_line}
-use Rattle.receiver.specs.declared.Answer.TheVariants.{Accepted, Refused}
-use Rattle.receiver.specs.Receiver.{answer}
+use Rattle.refusal.specs.declared.Refusal.{Refusal}
+use Rattle.refusal.specs.Numbers.{number, never_zero}
 use Rattle.convert.specs.Convert.{refused, line_or}
 
-pub accepted_line : (number : ℕ) (line : List ℕ) → Accepted ≡ answer number → (number ≡ 0) × (line_or number line ≡ line ++ (10 ∷ []))
+pub accepted_line : (n : ℕ) (line : List ℕ) → 0 ≡ n → line_or n line ≡ line ++ (10 ∷ [])
 unfolding line_or
-accepted_line zero line e = (refl, refl)
-accepted_line (suc n) line e = let z : ◌≡◌ {A = ℕ} 0 1 = cc in absurd (omega arith)
+accepted_line n line e = rw (sym e)
 
-pub refused_line : (number n : ℕ) (line : List ℕ) → Refused n ≡ answer number → line_or number line ≡ refused n
+pub refused_line : (n : ℕ) (why : Refusal) (line : List ℕ) → number why ≡ n → line_or n line ≡ refused (number why)
 unfolding line_or
-refused_line zero n line e = let z : ◌≡◌ {A = ℕ} 0 1 = cc in absurd (omega arith)
-refused_line (suc k) n line e = let z : n ≡ suc k = cc in rw (ne_eqb (suc k) 0 (λ q. omega arith), z)
+refused_line n why line e = rw (sym e, never_zero why)
 
 pub refused_long : (n : ℕ) → length (refused n) ≤ 29
 unfolding refused

@@ -1,7 +1,7 @@
 -- to_receiver and then from_receiver: every frame's line comes back in lower case, and a line that was refused as `refused 10`.
 use Rattle.std.specs.Prelude.{ℕ, ◌<◌, ◌≡◌, List, [], ◌∷◌, ◌++◌, map, Bool, cond, not, ◌&&◌, length, get_or}
 use Rattle.std.proofs.Math.Path.{refl}
-use Rattle.std.proofs.Common.{ap, append_assoc, arith}
+use Rattle.std.proofs.Common.{append_assoc, arith}
 use Rattle.std.proofs.Math.Bool.{true, false}
 use Rattle.std.specs.Int.Bits.{bit_and}
 use Rattle.std.proofs.Math.Dec.{eqb}
@@ -11,10 +11,10 @@ use Rattle.stream.specs.Lines.{pieces, of_pieces, lines, plain, line_first}
 use Rattle.stream.specs.Told.{texts}
 use Rattle.stream.specs.Decimal.{decimal_in, decimal, figure}
 use Rattle.hex_lines.specs.Text.{is_only, digit, value, is_frame, payload}
-use Rattle.receiver.specs.Receiver.{line_of, frame_of, is_line, answer, write_number, written, read_number, taken}
+use Rattle.receiver.specs.Receiver.{line_of, frame_of, is_line, write_number, written, read_number, taken}
 use Rattle.receiver.specs.Lines.{line_length, line_digit}
 use Rattle.receiver.specs.RoundTrips.{read_written, read_accepted}
-use Rattle.receiver.specs.Calls.{line_long}
+use Rattle.receiver.specs.Calls.{write_of_zero, line_long}
 use Rattle.convert.specs.declared.Way.TheVariants.{ToReceiver, FromReceiver}
 use Rattle.convert.specs.Convert.{refused, line_or, to_number, to_receiver, from_receiver, is_plus, text, step, program}
 use Rattle.convert.specs.Halves.{payload_bytes, lower_case}
@@ -29,7 +29,7 @@ back first line =
 frame_again : (p : List ℕ) → ((k : ℕ) → get_or p k 0 < 256) → write_number p ≡ 0 → (is_line (line_of p) ≡ true) × (frame_of (line_of p) ≡ p)
 unfolding written taken read_number
 frame_again p h e =
-    let w = rw e at (read_written p [] [] h (ap answer e)) in
+    let w = rw e at (read_written p [] [] h (write_of_zero p e)) in
     let i = read_accepted (line_of p) w.0 in
     (i, rw i at w.1)
 

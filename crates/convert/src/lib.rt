@@ -3,12 +3,14 @@
 
 ghost use Rattle.std.specs.Prelude.{◌≡◌, ◌&&◌, [], ◌∷◌, ◌++◌, ◌+◌, ◌≤◌, ◌<◌, length};
 ghost use Rattle.stream.specs.Room.{over};
+ghost use Rattle.refusal.specs.Numbers.{number};
 ghost use Rattle.receiver.specs.Receiver as Receiver;
 ghost use Rattle.convert.specs.Convert as Convert;
 ghost use Rattle.convert.specs.Halves as Halves;
 
 use hex_lines::Line;
-use receiver::Answer;
+use refusal::Refusal;
+use std::array;
 
 // Which way a file goes.
 #[derive(Clone, Copy)]
@@ -25,18 +27,21 @@ fn half(b: u8, k: usize) -> u8
     if k % 2 == 0 { b / 16 } else { b % 16 }
 }
 
+// Digit k of those that spell 20 bytes.
+fn digit_at(payload: &[u8], k: usize) -> u8
+    requires bytes { length payload.now ≡ 20 }
+    requires below { k < 40 }
+    ensures { result ≡ Halves.digit_at payload.now k }
+{
+    hex_lines::digit(half(payload[k / 2], k))
+}
+
 // The digits of 20 bytes.
 fn hexadecimal(payload: &[u8]) -> [u8; 40]
     requires { length payload.now ≡ 20 }
     ensures { result ≡ Convert.hexadecimal payload.now }
 {
-    let mut text = [b'0'; 40];
-    let mut k = 0;
-    while k < 40 {
-        text[k] = hex_lines::digit(half(payload[k / 2], k));
-        k += 1;
-    }
-    text
+    array::from_fn(|k| digit_at(payload, k))
 }
 
 // A line and its newline, over the beginning of out. The answer is their length.
@@ -50,12 +55,12 @@ fn put_line(line: &[u8], out: &mut [u8]) -> usize
 }
 
 // The line of a refusal.
-fn put_refused(number: u8, out: &mut [u8]) -> usize
+fn put_refused(why: Refusal, out: &mut [u8]) -> usize
     requires { 163 ≤ length out.old }
-    ensures length { result ≡ length (Convert.refused number) }
-    ensures text { out.new ≡ over (Convert.refused number) out.old }
+    ensures length { result ≡ length (Convert.refused (number why)) }
+    ensures text { out.new ≡ over (Convert.refused (number why)) out.old }
 {
-    stream::put_figure(b"refused ", number as u64, 0, out)
+    stream::put_figure(b"refused ", u64::from(why.number()), 0, out)
 }
 
 // The line of digits of a frame, or its refusal.
@@ -66,8 +71,8 @@ fn put_digits(payload: [u8; 20], out: &mut [u8]) -> usize
 {
     let mut digits = [b'0'; 162];
     match receiver::write(&payload, &mut digits) {
-        Answer::Accepted => put_line(&digits, out),
-        Answer::Refused(number) => put_refused(number, out),
+        Ok(()) => put_line(&digits, out),
+        Err(why) => put_refused(why, out),
     }
 }
 
@@ -78,7 +83,7 @@ fn to_receiver(line: &[u8], out: &mut [u8]) -> usize
     ensures text { out.new ≡ over (Convert.to_receiver line.now) out.old }
 {
     if line.len() != 40 {
-        return put_refused(9, out);
+        return put_refused(Refusal::NoFrameLine, out);
     }
     let mut text = [0u8; 40];
     stream::put(line, &mut text);
@@ -86,7 +91,7 @@ fn to_receiver(line: &[u8], out: &mut [u8]) -> usize
     if hex_lines::held_frame(held) {
         return put_digits(hex_lines::payload(text), out);
     }
-    put_refused(9, out)
+    put_refused(Refusal::NoFrameLine, out)
 }
 
 // What a line of digits becomes.
@@ -97,8 +102,8 @@ fn from_receiver(line: &[u8], out: &mut [u8]) -> usize
 {
     let mut payload = [0u8; 20];
     match receiver::read(line, &mut payload) {
-        Answer::Accepted => put_line(&hexadecimal(&payload), out),
-        Answer::Refused(number) => put_refused(number, out),
+        Ok(()) => put_line(&hexadecimal(&payload), out),
+        Err(why) => put_refused(why, out),
     }
 }
 
@@ -106,13 +111,7 @@ fn from_receiver(line: &[u8], out: &mut [u8]) -> usize
 fn is_start(first: bool, line: &[u8]) -> bool
     ensures { result ≡ first && Convert.is_plus line.now }
 {
-    if !first {
-        return false;
-    }
-    if line.len() != 1 {
-        return false;
-    }
-    line[0] == b'+'
+    first && line == b"+".as_slice()
 }
 
 // The end of a line: its text goes over the beginning of out. The answer is how long it is.

@@ -89,10 +89,7 @@ fn feed(way: Way, converter: Converter, chunk: &[u8], room: &mut [u8]) -> Fed
     let mut first = converter.first;
     let mut line = converter.line;
     let mut n = 0;
-    let mut at = 0;
-    while at < chunk.len() {
-        let b = chunk[at];
-        at += 1;
+    for &b in chunk {
         if b == b'\n' {
             n += end_line(way, first, line, &mut room[n..]);
             first = false;

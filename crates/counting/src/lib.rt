@@ -10,10 +10,11 @@ use observation::Subframe;
 use tally::{Clippings, Subframes, Tally};
 
 // One more. A count that stands at its top stays, so that no tally can overflow; none that began at 0 comes near it.
+#[tactic(auto, unfolding(tally::specs::Carried::more))]
 fn more(n: u64) -> u64
     ensures { result ≡ Carried.more n }
 {
-    if n < u64::MAX { n + 1 } else { n }
+    n.saturating_add(1)
 }
 
 fn more_if(n: u64, counts: bool) -> u64
@@ -109,18 +110,12 @@ fn added_all(t: Clippings, s: [Clipped; 4]) -> Clippings
 pub fn with_frame(tally: Tally, s: [Subframe; 4], c: [Clipped; 4]) -> Tally
     ensures { result ≡ Carried.with_frame tally s c }
 {
-    let t = tally.subframes;
-    let k = tally.clipped;
-    let subframes = counted_all(t, s);
-    let clipped = added_all(k, c);
+    let subframes = counted_all(tally.subframes, s);
+    let clipped = added_all(tally.clipped, c);
     Tally {
-        lines: tally.lines,
-        accepted: tally.accepted,
-        refused_6: tally.refused_6,
-        refused_7: tally.refused_7,
-        refused_9: tally.refused_9,
         subframes,
         clipped,
+        ..tally
     }
 }
 
@@ -128,16 +123,13 @@ pub fn with_frame(tally: Tally, s: [Subframe; 4], c: [Clipped; 4]) -> Tally
 pub fn numbered(tally: Tally, number: u8) -> Tally
     ensures { result ≡ Carried.numbered tally number }
 {
-    let subframes = tally.subframes;
-    let clipped = tally.clipped;
     Tally {
         lines: more(tally.lines),
         accepted: more_if(tally.accepted, number == 0),
         refused_6: more_if(tally.refused_6, number == 6),
         refused_7: more_if(tally.refused_7, number == 7),
         refused_9: more_if(tally.refused_9, number == 9),
-        subframes,
-        clipped,
+        ..tally
     }
 }
 
@@ -145,7 +137,8 @@ pub fn numbered(tally: Tally, number: u8) -> Tally
 pub fn uncounted(tally: Tally) -> Tally
     ensures { result ≡ Carried.uncounted tally }
 {
-    let mut t = tally;
-    t.lines = more(tally.lines);
-    t
+    Tally {
+        lines: more(tally.lines),
+        ..tally
+    }
 }

@@ -5,9 +5,8 @@ use mathlib.Core.List.{List, [], map, append-nil}
 use native.Mathlib.Omega.{arith}
 use borrow.Author.Tests.{eq-eqb, ne_eqb}
 use lib.IntN.{ℤ, pos}
-use lib.ListN.{length, take, drop, replicate, length-map, length-drop, length-replicate, get_or-replicate}
+use lib.ListN.{length, take, drop, replicate, length-map, length-drop}
 use lib.Seq.{sets, sets-eq, take_all, drop-length}
-use Rattle.sequence.specs.Table.{table, table_of}
 use Rattle.state.specs.declared.State.{State}
 use Rattle.calls.specs.declared.Answer.{Answer}
 use Rattle.state.specs.declared.Returned.{Returned}
@@ -57,10 +56,6 @@ filled old xs h =
     let k : 0 + length (sample_bytes xs) ≡ length old = omega arith in
     let d : drop (0 + length (sample_bytes xs)) old ≡ [] = ap (λ (n : ℕ). drop n old) k ∙ drop-length old in
     sets-eq (sample_bytes xs) old 0 (omega arith) ∙ rw d (append-nil (sample_bytes xs))
-
--- ---- a list of zeros, as a loop writes it
-pub zeros_table : (n : ℕ) → table (λ (k : ℕ). 0) n ≡ zeros n
-zeros_table n = table_of (λ (k : ℕ). 0) 0 (zeros n) n (length-replicate n 0) (λ k h. sym (get_or-replicate n k 0 0 h))
 
 -- ---- reset and cold start
 module _ (tables b : List ℕ) where

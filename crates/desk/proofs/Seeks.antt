@@ -13,7 +13,7 @@ use Rattle.slots.specs.declared.Slot.{Slot}
 use Rattle.shelf.specs.Shelf.{lent}
 use Rattle.shelf.specs.Cases.{judged_not}
 use Rattle.desk_records.specs.Records.{RECORDS, records, no_records}
-use Rattle.seek.specs.declared.Sought.{Sought}
+use Rattle.seek.specs.Seek.{Sought}
 use Rattle.seek.specs.Seek as Seek
 use Rattle.desk_calls.specs.Desk.{TABLES, words, bytes}
 use Rattle.desk_calls.specs.Images.{short_check}

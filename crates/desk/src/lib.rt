@@ -10,8 +10,9 @@ ghost use Rattle.seek.specs.Seek as Seek;
 ghost use Rattle.desk_calls.specs.Desk as Desk;
 ghost use Rattle.desk_calls.specs.Seeking as Seeking;
 
-use seek::Sought;
+use refusal::Refusal;
 use slots::Slot;
+use state::State;
 
 // The length of the table file, where its last bytes begin, and how many bytes the samples of a frame take.
 const TABLES: usize = 15834;
@@ -20,18 +21,14 @@ const BYTES: usize = 11926;
 
 const ROOM: usize = 640;
 
-// An image of another length.
+// A refusal is a number in this file, since C reads it. This is that of an image of another length.
 const NO_IMAGE: u8 = 11;
 
 // All zero.
 fn clear(image: &mut [u8])
     ensures { image.new ≡ Desk.zeros (length image.old) }
 {
-    let mut k = 0;
-    while k < image.len() {
-        image[k] = 0;
-        k += 1;
-    }
+    image.fill(0);
 }
 
 // The state that a call starts from, with mark 2, and sure.
@@ -216,7 +213,7 @@ pub extern "C" fn drolkhise_shelf_save(
     ensures images { images.new ≡ Shelf.images_after (Calls.save records.old (length images.old) image.now frame (length slot.old)) (Calls.saved_image image.now) images.old }
     ensures slot { slot.new ≡ Calls.slot_after (Calls.save records.old (length images.old) image.now frame (length slot.old)) slot.old }
 {
-    desk_shelf::save(records, images, image, frame, slot)
+    refusal::told(desk_shelf::save(records, images, image, frame, slot))
 }
 
 #[unsafe(no_mangle)]
@@ -224,7 +221,7 @@ pub extern "C" fn drolkhise_shelf_hold(records: &mut [u8], images: &[u8], slot: 
     ensures number { result ≡ Shelf.number (Calls.hold records.old (length images.now) slot) }
     ensures records { records.new ≡ Calls.records_after (Calls.hold records.old (length images.now) slot) records.old }
 {
-    desk_shelf::hold(records, images, slot)
+    refusal::told(desk_shelf::hold(records, images, slot))
 }
 
 #[unsafe(no_mangle)]
@@ -232,7 +229,7 @@ pub extern "C" fn drolkhise_shelf_let_go(records: &mut [u8], images: &[u8], slot
     ensures number { result ≡ Shelf.number (Calls.let_go records.old (length images.now) slot) }
     ensures records { records.new ≡ Calls.records_after (Calls.let_go records.old (length images.now) slot) records.old }
 {
-    desk_shelf::let_go(records, images, slot)
+    refusal::told(desk_shelf::let_go(records, images, slot))
 }
 
 #[unsafe(no_mangle)]
@@ -245,20 +242,26 @@ pub extern "C" fn drolkhise_shelf_fetch(
     ensures number { result ≡ Calls.fetch_number records.now images.now slot (length image.old) }
     ensures image { image.new ≡ Calls.fetch_image records.now images.now slot image.old }
 {
-    desk_shelf::fetch(records, images, slot, image)
+    refusal::told(desk_shelf::fetch(records, images, slot, image))
 }
 
 // By the call on states; `none` makes a set that is refused with 1, in its place among the refusals.
-fn sought(tables: &[u8], slots: [Slot; 16], images: &[u8], recording: &[u8], k: u32) -> Sought
-    ensures { result ≡ Seek.seek (Desk.words tables.now) (Desk.bytes tables.now) slots images.now recording.now k }
+fn sought(
+    tables: &[u8],
+    slots: [Slot; 16],
+    images: &[u8],
+    recording: &[u8],
+    k: u32,
+) -> Result<State, Refusal>
+    ensures { Seek.answer result ≡ Seek.seek (Desk.words tables.now) (Desk.bytes tables.now) slots images.now recording.now k }
 {
     if tables.len() != TABLES {
         let none = [0i16; 1];
-        return seek::seek_by_value(&none, tables, slots, images, recording, k);
+        return seek::seek(&none, tables, &slots, images, recording, k);
     }
     let mut words = [0i16; 5963];
     image::read_words(tables, 0, &mut words);
-    seek::seek_by_value(&words, &tables[BYTES..], slots, images, recording, k)
+    seek::seek(&words, &tables[BYTES..], &slots, images, recording, k)
 }
 
 // The state that frame k of a recording will be decoded with, from the best save of the shelf.
@@ -281,16 +284,22 @@ pub extern "C" fn drolkhise_seek(
         image_write::write(state::all_zero(), image);
         return 12;
     }
-    let found = sought(
+    match sought(
         tables,
         desk_records::read_records(records),
         images,
         recording,
         k,
-    );
-    let state = found.state;
-    image_write::write(state, image);
-    found.number
+    ) {
+        Ok(state) => {
+            image_write::write(state, image);
+            0
+        }
+        Err(why) => {
+            image_write::write(state::all_zero(), image);
+            why.number()
+        }
+    }
 }
 
 // The table check, the unpacker and the packer: the calls of desk_tables and desk_fields under C names.

@@ -2,7 +2,7 @@
 use Rattle.std.specs.Prelude.{ℕ, List, not, cond, eqb, length}
 use Rattle.image.specs.Image.{SIZE, image}
 use Rattle.desk_records.specs.Records.{records}
-use Rattle.seek.specs.declared.Sought.{Sought}
+use Rattle.seek.specs.Seek.{Sought}
 use Rattle.seek.specs.Seek as Seek
 use Rattle.desk_calls.specs.Desk.{words, bytes}
 

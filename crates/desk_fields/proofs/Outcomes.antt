@@ -1,5 +1,6 @@
 -- The ways that each call goes: what the definitions give on each.
-use Prim.Native.Nat.{ℕ, ◌+◌, ◌*◌, ◌/◌, ◌%◌}
+use Prim.Native.Nat.{ℕ, ◌+◌, ◌*◌}
+use Rattle.std.specs.Prelude.{Result}
 use mathlib.Core.Path.{◌≡◌, refl, ap, ◌∙◌}
 use mathlib.Core.List.{List}
 use native.Mathlib.Omega.{arith}
@@ -8,7 +9,7 @@ use lib.ListN.{length, get_or}
 use Rattle.sequence.specs.Table.{table}
 use Rattle.bits.specs.declared.HalfParams.{HalfParams}
 use Rattle.bits.specs.declared.FrameParams.{FrameParams}
-use Rattle.bits.specs.declared.Unpacked.{Unpacked}
+use Rattle.refusal.specs.declared.Refusal.{Refusal}
 use Rattle.bits.specs.Bits as Bits
 use Rattle.image.specs.Bytes.{number_at}
 use Rattle.image.specs.Parts.{numbers_at}
@@ -20,14 +21,6 @@ pub two_bytes : (b : List ℕ) (k : ℕ) → get_or b (2 * k) 0 + 256 * get_or b
 unfolding number_at
 two_bytes b k = let e : 0 + 2 * k ≡ 2 * k = omega arith in rw e (omega arith)
 
-pub low_byte : (fs : List ℕ) (k : ℕ) → k % 2 ≡ 0 → get_or fs (k / 2) 0 % 256 ≡ byte_of fs k
-unfolding byte_of
-low_byte fs k h = rw (eq-eqb (k % 2) 0 h)
-
-pub high_byte : (fs : List ℕ) (k : ℕ) → (k % 2 ≡ 0 → ⊥) → get_or fs (k / 2) 0 / 256 % 256 ≡ byte_of fs k
-unfolding byte_of
-high_byte fs k h = rw (ne_eqb (k % 2) 0 h)
-
 -- ---- unpacking
 module _ (p old : List ℕ) where
   abbrev Unpacks : ℕ → List ℕ → Type 0
@@ -37,7 +30,7 @@ module _ (p old : List ℕ) where
   unfolding unpack_number unpack_fields
   unpack_two h = rw (ne_eqb (length old) FIELDS h) (refl, refl)
 
-  pub unpack_told : length old ≡ FIELDS → (u : Unpacked) (f : FrameParams) (fs : List ℕ) (n : ℕ) (new : List ℕ)
+  pub unpack_told : length old ≡ FIELDS → (u : Result FrameParams Refusal) (f : FrameParams) (fs : List ℕ) (n : ℕ) (new : List ℕ)
       → (u ≡ Bits.unpack p) × (Bits.number u ≡ Bits.refusal p) × (Bits.fields u ≡ Bits.fields_or_zero p)
       → f ≡ Bits.fields u → fs ≡ Bits.list f → new ≡ table (byte_of fs) FIELDS → n ≡ Bits.number u → Unpacks n new
   unfolding unpack_number unpack_fields

@@ -1,9 +1,9 @@
 -- Over bytes too, unpacking gives back what was packed, and packing what was unpacked.
 use Rattle.std.specs.Prelude.{ℕ, ◌≡◌, refl, Bool, true, false, not, cond, List, [], ◌∷◌, eqb, length, get_or}
-use Rattle.std.proofs.Common.{sym, ap, ◌∙◌, append-nil, arith, eq-eqb, eqb-true, pow_mono}
+use Rattle.std.proofs.Common.{Ok, Err, sym, ap, ◌∙◌, append-nil, arith, eq-eqb, eqb-true, pow_mono}
 use Rattle.std.specs.Int.Bits.{bit_and}
 use Rattle.bits.specs.declared.FrameParams.{FrameParams}
-use Rattle.bits.specs.declared.Unpacked.TheVariants.{Fields, Refused}
+use Rattle.refusal.specs.declared.Refusal.TheVariants.{FrameLength, Padding}
 use Rattle.bits.specs.Bits.{widths, frame_params, list, fields_of, unpack, number, fields, refusal, fields_or_zero, packed}
 use Rattle.bits.specs.Calls.{unpack_number_lem, unpack_fields_lem}
 use Rattle.bits.specs.Digits.{Within}
@@ -45,11 +45,11 @@ unfolding bytes_of_fields
 bytes_long f = length_all 2 (list f)
 
 -- a frame that is not refused has fields
-accepted : (p : List ℕ) → refusal p ≡ 0 → unpack p ≡ Fields (fields_of p)
+accepted : (p : List ℕ) → refusal p ≡ 0 → unpack p ≡ Ok (fields_of p)
 unfolding refusal unpack
 accepted p e = by (eqb (length p) 20) (eqb (bit_and (get_or p 19 0) 192) 0) e
   where
-    by : (s t : Bool) → ◌≡◌ {A = ℕ} (cond s (cond t 0 6) 3) 0 → cond s (cond t (Fields (fields_of p)) (Refused 6)) (Refused 3) ≡ Fields (fields_of p)
+    by : (s t : Bool) → ◌≡◌ {A = ℕ} (cond s (cond t 0 6) 3) 0 → cond s (cond t (Ok (fields_of p)) (Err Padding)) (Err FrameLength) ≡ Ok (fields_of p)
     by true true e = refl
     by true false e = absurd (omega arith)
     by false t e = absurd (omega arith)

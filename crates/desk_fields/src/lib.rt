@@ -9,19 +9,14 @@ ghost use Rattle.image.specs.Parts.{numbers_at};
 ghost use Rattle.desk_fields.specs.Fields as Fields;
 ghost use Rattle.desk_fields.specs.Calls as Calls;
 
-use bits::{FrameParams, Unpacked};
+use bits::FrameParams;
+use std::array;
 
 // How many bytes the 24 fields take.
 const FIELDS: usize = 48;
 
-// Fields, or a room for them, of another length.
+// Fields, or a room for them, of another length: a number, since C reads it.
 const NO_ROOM: u8 = 2;
-
-fn joined(low: u8, high: u8) -> u16
-    ensures { result ≡ low + 256 * high }
-{
-    (low as u16) + 256 * (high as u16)
-}
 
 // Field k of 24, out of its two bytes.
 fn field(fields: &[u8], k: usize) -> u16
@@ -29,7 +24,7 @@ fn field(fields: &[u8], k: usize) -> u16
     requires fact_2 { k < 24 }
     ensures { result ≡ number_at 2 fields.now (0 + 2 * k) }
 {
-    joined(fields[2 * k], fields[2 * k + 1])
+    u16::from_le_bytes([fields[2 * k], fields[2 * k + 1]])
 }
 
 // The 24 fields.
@@ -37,25 +32,7 @@ fn numbers(fields: &[u8]) -> [u16; 24]
     requires { length fields.now ≡ Fields.FIELDS }
     ensures { result ≡ numbers_at 2 24 fields.now 0 }
 {
-    let mut read = [0u16; 24];
-    let mut k = 0;
-    while k < 24 {
-        read[k] = field(fields, k);
-        k += 1;
-    }
-    read
-}
-
-fn low(n: u16) -> u8
-    ensures { result ≡ n % 256 }
-{
-    (n % 256) as u8
-}
-
-fn high(n: u16) -> u8
-    ensures { result ≡ n / 256 % 256 }
-{
-    (n / 256) as u8
+    array::from_fn(|k| field(fields, k))
 }
 
 // Byte k of the fields' bytes: by turns a field's low one and its high one.
@@ -63,28 +40,15 @@ fn byte(fields: &[u16; 24], k: usize) -> u8
     requires { k < Fields.FIELDS }
     ensures { result ≡ Fields.byte_of fields.now k }
 {
-    let n = fields[k / 2];
-    if k % 2 == 0 { low(n) } else { high(n) }
+    fields[k / 2].to_le_bytes()[k % 2]
 }
 
 fn write(fields: &[u16; 24], room: &mut [u8])
     requires { length room.old ≡ Fields.FIELDS }
     ensures { room.new ≡ table (Fields.byte_of fields.now) Fields.FIELDS }
 {
-    let mut k = 0;
-    while k < FIELDS {
-        room[k] = byte(fields, k);
-        k += 1;
-    }
-}
-
-fn number(u: Unpacked) -> u8
-    ensures { result ≡ Bits.number u }
-{
-    match u {
-        Unpacked::Fields(_) => 0,
-        Unpacked::Refused(n) => n,
-    }
+    let bytes: [u8; FIELDS] = array::from_fn(|k| byte(fields, k));
+    room.copy_from_slice(&bytes);
 }
 
 // The fields of a frame; of one that is refused they are zeros.
@@ -95,10 +59,13 @@ pub fn unpack(payload: &[u8], fields: &mut [u8]) -> u8
     if fields.len() != FIELDS {
         return NO_ROOM;
     }
-    let u = frame_params::unpack(payload);
-    let read = frame_params::list(frame_params::fields(u));
+    let answer = frame_params::unpack(payload);
+    let read = frame_params::list(frame_params::fields(answer));
     write(&read, fields);
-    number(u)
+    match answer {
+        Ok(_) => 0,
+        Err(why) => why.number(),
+    }
 }
 
 // The frame of these fields; where they are refused nothing is written.
@@ -112,5 +79,5 @@ pub fn pack(fields: &[u8], payload: &mut [u8]) -> u8
     let read = numbers(fields);
     let first = frame_params::half_params(read, 0);
     let second = frame_params::half_params(read, 12);
-    frame_params::pack(FrameParams { first, second }, payload)
+    refusal::told(frame_params::pack(FrameParams { first, second }, payload))
 }

@@ -6,6 +6,7 @@ ghost use Rattle.std.proofs.lemmas.List.Edits.{sets};
 ghost use Rattle.desk_records.specs.Records as Records;
 
 use slots::Slot;
+use std::array;
 
 // How many bytes a record takes, and sixteen.
 const RECORD: usize = 5;
@@ -30,14 +31,7 @@ pub fn read_records(records: &[u8]) -> [Slot; 16]
     requires { length records.now ≡ Records.RECORDS }
     ensures { result ≡ Records.records records.now }
 {
-    let none = Slot { users: 0, frame: 0 };
-    let mut slots = [none; 16];
-    let mut k = 0;
-    while k < slot_users::SLOTS {
-        slots[k] = record_at(records, k);
-        k += 1;
-    }
-    slots
+    array::from_fn(|k| record_at(records, k))
 }
 
 fn put_record(s: Slot, records: &mut [u8], k: usize)
@@ -54,9 +48,7 @@ pub fn write_records(slots: [Slot; 16], records: &mut [u8])
     requires { length records.old ≡ Records.RECORDS }
     ensures { records.new ≡ Records.bytes_of_records slots }
 {
-    let mut k = 0;
-    while k < slot_users::SLOTS {
+    for k in 0..slot_users::SLOTS {
         put_record(slots[k], records, k);
-        k += 1;
     }
 }

@@ -15,11 +15,9 @@ use Rattle.slots.specs.declared.Slot.{Slot}
 use Rattle.slot_users.specs.Users as Users
 use Rattle.slot_users.specs.Users.{SLOTS, Decision, refuse, change, free}
 use Rattle.shelf.specs.Shelf as Shelf
-use Rattle.shelf.specs.Shelf.{number, slot_of, slots_after, images_after, not_fetched, judged, lent, Done, SaveDone}
+use Rattle.shelf.specs.Shelf.{Saved, Fetched, number, slot_of, slots_after, images_after, not_fetched, judged, lent, Done, SaveDone}
 use Rattle.shelf.specs.Cases.{judged_not}
 use Rattle.shelf.specs.April.{accepted_hold, accepted_let_go, accepted_save}
-use Rattle.shelf.specs.declared.Fetched.{Fetched}
-use Rattle.shelf.specs.declared.Saved.{Saved}
 use Rattle.desk_records.specs.Records.{RECORDS, bytes_of_records, records, no_records}
 use Rattle.desk_shelf.specs.Calls.{records_after, slot_after, hold, let_go, save, saved_image, fetch_number, fetch_image}
 

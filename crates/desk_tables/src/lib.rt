@@ -2,10 +2,12 @@
 #![tactic(auto)]
 
 ghost use Rattle.std.specs.Prelude.{◌≡◌, ◌<◌, length};
+ghost use Rattle.refusal.specs.Numbers.{number};
 ghost use Rattle.table_file.specs.File as File;
 ghost use Rattle.state.specs.State as State;
 ghost use Rattle.desk_tables.specs.Check as Check;
 
+use refusal::Refusal;
 use tables::Fault;
 
 // The length of the table file, and where its last bytes begin.
@@ -16,16 +18,13 @@ const BYTES: usize = 11926;
 // How many bytes the rule and the place take.
 const TOLD: usize = 5;
 
-// A room of another length.
-const NO_ROOM: u8 = 2;
-
-// Which set rule is broken and where: the set is looked through again, where it was refused with 4 and nowhere else.
-fn fault(number: u8, words: &[i16], tables: &[u8]) -> Fault
-    requires fact_1 { number ≡ File.check_file tables.now }
-    requires fact_2 { (number ≡ 4 → words.now ≡ File.words tables.now) }
-    ensures { result ≡ State.fault number (File.words tables.now) (File.bytes tables.now) }
+// Which set rule is broken and where: the set is looked through again, where it was refused for that and nowhere else.
+fn fault(why: Refusal, words: &[i16], tables: &[u8]) -> Fault
+    requires fact_1 { number why ≡ File.check_file tables.now }
+    requires fact_2 { (number why ≡ 4 → words.now ≡ File.words tables.now) }
+    ensures { result ≡ State.fault (number why) (File.words tables.now) (File.bytes tables.now) }
 {
-    if number == 4 {
+    if let Refusal::TablesRule = why {
         return rules::first_fault(words, &tables[BYTES..]);
     }
     Fault { rule: 0, place: 0 }
@@ -47,12 +46,19 @@ pub fn check_tables(tables: &[u8], told: &mut [u8]) -> u8
 {
     if told.len() != TOLD {
         if tables.len() != TABLES {
-            return 1;
+            return Refusal::TablesLength.number();
         }
-        return NO_ROOM;
+        return Refusal::Room.number();
     }
     let mut words = [0i16; 5963];
-    let number = table_file::check_file(tables, &mut words);
-    put_fault(fault(number, &words, tables), told);
-    number
+    match table_file::check_file(tables, &mut words) {
+        Err(why) => {
+            put_fault(fault(why, &words, tables), told);
+            why.number()
+        }
+        Ok(()) => {
+            put_fault(Fault { rule: 0, place: 0 }, told);
+            0
+        }
+    }
 }

@@ -11,7 +11,7 @@ pub fn ln(x: f32) -> f32
     requires { T (not (is_nan x)) }
     ensures { result ≡ Elementary.ln x }
 {
-    let i = f32::to_bits(x) % 0x8000_0000 + 0x55_5555;
+    let i = x.to_bits() % 0x8000_0000 + 0x55_5555;
     let f = f32::from_bits(i % 0x80_0000 + 0x3f2a_aaab) - 1.0;
     let d = (i / 0x80_0000) as f32 - 127.0;
     let z = f * f;
@@ -29,7 +29,7 @@ pub fn exp(x: f32) -> f32
     ensures { result ≡ Elementary.exp x }
 {
     let t = x * 1.442695 + 12582944.0;
-    let n = f32::to_bits(t) % 64;
+    let n = t.to_bits() % 64;
     let k = n as f32 - 32.0;
     let g = x - k * 0.69317627;
     let c = k * 2.9088971e-5;

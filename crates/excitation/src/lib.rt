@@ -57,11 +57,7 @@ fn below_ceiling(lag: i16, previous_lag: i16) -> bool
 fn pitch_continues(lag: i16, previous_lag: i16) -> bool
     ensures { result ≡ Excitation.pitch_continues lag previous_lag }
 {
-    if above_floor(lag, previous_lag) {
-        below_ceiling(lag, previous_lag)
-    } else {
-        false
-    }
+    above_floor(lag, previous_lag) && below_ceiling(lag, previous_lag)
 }
 
 // The second gain: a sharp spectrum clears it, and where the others fail it stays what it was.
@@ -69,14 +65,12 @@ fn second(reflection: i16, previous_gain: i16, lag: i16, previous_lag: i16) -> i
     ensures { result ≡ Excitation.second reflection previous_gain lag previous_lag }
 {
     if peaky_spectrum(reflection) {
-        return 0;
+        0
+    } else if gain_was_strong(previous_gain) && pitch_continues(lag, previous_lag) {
+        HALF
+    } else {
+        previous_gain
     }
-    if gain_was_strong(previous_gain) {
-        if pitch_continues(lag, previous_lag) {
-            return HALF;
-        }
-    }
-    previous_gain
 }
 
 // The two gains of the coming subframe.

@@ -3,6 +3,7 @@ use Rattle.std.proofs.Common.{arith, add-one, ap, sym, ◌∙◌, subst, eq-eqb,
 use Rattle.std.specs.Prelude.{Bool, true, false, not, cond, ◌||◌, ◌≡◌, refl, List, ℕ, zero, suc, ◌+◌, ◌-◌, ◌≤◌, ◌<◌, T, eqb, length, get_or, ℤ, pos, negsuc, nat_abs, ◌+ℤ◌, ◌-ℤ◌}
 use Rattle.std.proofs.lemmas.Bool.{false≢true}
 use Rattle.std.proofs.Math.IntN.{+ℤ_idl, +ℤ_invr, -ℤ-+ℤ_cancel}
+use Rattle.std.specs.Int.{from_bool, int_max, int_min}
 use Rattle.std.specs.Int.Signed.{lt_z, lt_z_yes, <ℤ_irrefl}
 use Rattle.sequence.specs.Count.{one, count, count_none, count_more}
 use Rattle.fixed.specs.Fixed.{residue, signed, wrap, clamp, sat, clips, hi}
@@ -23,6 +24,21 @@ alike a = ap not (eq-eqb (nat_abs (a -ℤ a)) 0 (ap nat_abs (+ℤ_invr a)))
 
 never_below : (a : ℤ) → lt_z a a ≡ true → ⊥
 never_below a e = <ℤ_irrefl {a = a} (lt_z_yes (subst T (sym e) tt))
+
+-- ---- what a test that is passed adds to a count
+pub one_of : (b : Bool) → from_bool b ≡ one b
+one_of true = refl
+one_of false = refl
+
+-- ---- between two ends, of which one is below 0
+pub clamped : (a b : ℕ) (z : ℤ) → int_max (negsuc a) (int_min z (pos b)) ≡ clamp (negsuc a) (pos b) z
+unfolding clamp
+clamped a b (negsuc n) = refl
+clamped a b (pos n) = go (lt_z (pos b) (pos n))
+  where
+    go : (t : Bool) → cond (lt_z (cond t (pos b) (pos n)) (negsuc a)) (negsuc a) (cond t (pos b) (pos n)) ≡ cond t (pos b) (pos n)
+    go true = refl
+    go false = refl
 
 -- ---- beyond the ends
 pub clips_beyond : (z : ℤ) → clips z ≡ (lt_z z (negsuc 2147483647) || lt_z (pos 2147483647) z)

@@ -2,6 +2,7 @@
 #![tactic(auto)]
 
 ghost use Rattle.std.specs.Prelude.{◌≡◌, ◌≤◌, nat_abs, ◌+ℤ◌, length};
+ghost use Rattle.std.specs.Int.{from_bool};
 ghost use Rattle.std.specs.Int.Signed.{mag};
 ghost use Rattle.sequence.specs.Count as Count;
 ghost use Rattle.fixed.specs.Fixed as Fixed;
@@ -33,38 +34,21 @@ pub fn fold_narrow(sum: i32, term: i32) -> i32
 pub fn sat(v: i64) -> i64
     ensures { result ≡ Fixed.sat v }
 {
-    if v < -2147483648 {
-        -2147483648
-    } else if 2147483647 < v {
-        2147483647
-    } else {
-        v
-    }
+    v.clamp(-2147483648, 2147483647)
 }
 
 // Whether saturation changes v.
 pub fn clips(v: i64) -> bool
     ensures { result ≡ Fixed.clips v }
 {
-    if v < -2147483648 {
-        true
-    } else {
-        2147483647 < v
-    }
-}
-
-// 1 for true: what a count goes up by.
-pub fn one(b: bool) -> u8
-    ensures { result ≡ Count.one b }
-{
-    if b { 1 } else { 0 }
+    v < -2147483648 || 2147483647 < v
 }
 
 // Whether x is at an end of 16 bits.
 fn at_end(x: i16) -> bool
     ensures { result ≡ Clips.at_end x }
 {
-    if x < -32767 { true } else { 32766 < x }
+    x < -32767 || 32766 < x
 }
 
 // How many samples of a block are: where none is, saturation changed none. Eight are looked at at a time.
@@ -73,8 +57,8 @@ pub fn ends(block: &[i16]) -> u8
     ensures { result ≡ Clips.ends block.now }
 {
     let mut found = 0u8;
-    for n in 0..block.len() {
-        found += one(at_end(block[n]));
+    for x in block {
+        found += u8::from(at_end(*x));
     }
     found
 }
@@ -134,7 +118,7 @@ pub fn shift(v: i64, s: i32) -> i64
     }
 }
 
-// How far v is from 0 or, below it, from -1.
+// How far v is from 0 or, below it, from -1: no number of the library's, whose unsigned_abs is from 0 on both sides.
 pub fn magnitude(v: i64) -> u64
     ensures { result ≡ mag v }
 {
@@ -142,8 +126,38 @@ pub fn magnitude(v: i64) -> u64
 }
 
 // A quotient and the exponent that it takes. Those of an accumulator that holds 0 are what the steps leave, and no reciprocal.
+// Two cases, and no struct with a flag: `zero_exactly` of Reciprocals says of which number each of them is.
 #[derive(Clone, Copy)]
 pub enum Reciprocal {
     Zero(i64, i32),
     Ordinary(i64, i32),
+}
+
+impl Reciprocal {
+    // Of either case.
+    #[tactic(auto, unfolding(crate::specs::Fixed::quotient))]
+    pub fn quotient(self) -> i64
+        ensures { result ≡ Fixed.quotient self }
+    {
+        match self {
+            Reciprocal::Zero(quotient, _) | Reciprocal::Ordinary(quotient, _) => quotient,
+        }
+    }
+
+    #[tactic(auto, unfolding(crate::specs::Fixed::exponent))]
+    pub fn exponent(self) -> i32
+        ensures { result ≡ Fixed.exponent self }
+    {
+        match self {
+            Reciprocal::Zero(_, exponent) | Reciprocal::Ordinary(_, exponent) => exponent,
+        }
+    }
+
+    // Whether it is the reciprocal of 0, which a caller may count.
+    #[tactic(auto, unfolding(crate::specs::Fixed::zeros))]
+    pub fn is_zero(self) -> bool
+        ensures { from_bool result ≡ Fixed.zeros self }
+    {
+        matches!(self, Reciprocal::Zero(_, _))
+    }
 }

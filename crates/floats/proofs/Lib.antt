@@ -1,5 +1,4 @@
 mod Even
 mod Ends
-mod Halves
 mod Range
 mod Patterns

@@ -1,25 +1,11 @@
 -- What a bit pattern says once the sign's bit is taken off: above the infinity's it is a NaN's, and up to that of 65,536.0 the float is within 65,536.
-use Rattle.std.proofs.Common.{◌≡◌, ℕ, ◌*◌, ◌/◌, ◌%◌, ◌^◌, ◌<◌, ◌≤◌, Bool, true, false, cond, not, T, eqb, leb, ◌⊎◌, sym, refl, ap, ◌∙◌, subst, inl, inr, le_trans, le_of_eq, lt_of_lt_of_le, lt_of_le_of_lt, le_of_lt, mul-le-mul_right, lt_of_mul-lt-mul_right, eq-or-lt_of_le, mul-lt-mul_of_pos_right, mul_right_comm, le_of_mul-le-mul_right, arith, pow_pos, le-ltb, lt-ltb, le-leb, leb-false, leb-true}
-use mathlib.Core.Bool.{false≢true}
+use Rattle.std.proofs.Common.{◌≡◌, ℕ, ◌*◌, ◌/◌, ◌%◌, ◌^◌, ◌<◌, ◌≤◌, Bool, true, false, cond, eqb, leb, ◌⊎◌, sym, refl, ap, ◌∙◌, inl, inr, le_trans, le_of_eq, lt_of_lt_of_le, lt_of_le_of_lt, le_of_lt, mul-le-mul_right, lt_of_mul-lt-mul_right, eq-or-lt_of_le, mul-lt-mul_of_pos_right, mul_right_comm, le_of_mul-le-mul_right, arith, pow_pos, le-leb, leb-false, leb-true}
 use borrow.Author.Tests.{lt-leb}
-use lib.Ieee.{Float, nan, inf, fin, binary32, up, down, of_bits, of_fields, nan_bits, is_nan}
+use lib.Ieee.{Float, nan, inf, fin, binary32, up, down, of_bits, of_fields}
 use lib.Ieee.Fits.{down_pos}
-use lib.Ieee.Bits.{nan_bits_is, nan_bits_above}
 use lib.Ieee.Exact.{HasValue}
 use Rattle.floats.specs.Floats.{within}
 use Rattle.floats.specs.Patterns.{steps_of, units_of, units_up, pattern_value}
-
-only_nan : (x : Float) → is_nan x ≡ true → nan ≡ x
-unfolding is_nan
-only_nan nan e = refl
-only_nan (inf s) e = absurd (false≢true e)
-only_nan (fin s m k) e = absurd (false≢true e)
-
-pub a_nan : (n : ℕ) → 0x7f80_0000 < n % 0x8000_0000 → nan ≡ of_bits binary32 n
-a_nan n h = only_nan (of_bits binary32 n) (sym (nan_bits_is binary32 n) ∙ nan_bits_above binary32 n ∙ lt-ltb 0x7f80_0000 (n % 0x8000_0000) h)
-
-pub no_nan : (n : ℕ) → n % 0x8000_0000 ≤ 0x7f80_0000 → T (not (nan_bits binary32 n))
-no_nan n h = subst (λ (b : Bool). T (not b)) (sym (nan_bits_above binary32 n ∙ le-ltb 0x7f80_0000 (n % 0x8000_0000) h)) tt
 
 -- a float by its fraction a / c
 by_fraction : (B : ℕ) (x : Float) (s : Bool) (a c : ℕ) → 0 < c → HasValue x s a c → within B x ≡ leb a (B * c)

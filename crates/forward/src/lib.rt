@@ -37,15 +37,13 @@ pub fn forward(words: &[i16], bytes: &[u8], state: State, recording: &[u8], j: u
 {
     let mut s = state;
     let mut a = places::place_of(recording, j);
-    let mut n = j;
-    while n < k {
+    for n in j..k {
         if recording.len() <= a {
             return s;
         }
         let e = places::line_end(recording, a);
         s = line_step(words, bytes, s, places::held(&recording[a..e]));
         a = places::behind(recording, e);
-        n += 1;
     }
     s
 }

@@ -19,9 +19,9 @@ fn residual(words: &[i16], bytes: &[u8], p: HalfParams) -> [f32; 10]
     spectral::residual(
         words,
         bytes,
-        p.stage1 as usize,
-        p.stage2_low as usize,
-        p.stage2_high as usize,
+        usize::from(p.stage1),
+        usize::from(p.stage2_low),
+        usize::from(p.stage2_high),
     )
 }
 
@@ -37,7 +37,7 @@ fn predicted(
     requires fact_2 { mode < 2 }
     ensures { result ≡ Frame.predicted words.now bytes.now residuals.now residual.now mode }
 {
-    let lsf = frequencies::predict(residuals, residual, bytes, mode as usize);
+    let lsf = frequencies::predict(residuals, residual, bytes, usize::from(mode));
     lsp::lsf_to_lsp(words, spectral::quantise_lsf(lsf))
 }
 
@@ -84,13 +84,15 @@ fn halves(
     ensures halves { result ≡ Frame.halves words.now bytes.now core residuals f }
     ensures samples { samples.new ≡ Frame.samples words.now bytes.now core residuals f }
 {
-    let p = f.first;
-    let q = f.second;
-    let first = half(words, bytes, core, residuals, p, &mut samples[..160]);
-    let x = first.half;
-    let middle = x.core;
-    let r = first.residuals;
-    let second = half(words, bytes, middle, r, q, &mut samples[160..]);
+    let first = half(words, bytes, core, residuals, f.first, &mut samples[..160]);
+    let second = half(
+        words,
+        bytes,
+        first.half.core,
+        first.residuals,
+        f.second,
+        &mut samples[160..],
+    );
     Both { first, second }
 }
 

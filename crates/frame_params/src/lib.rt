@@ -1,53 +1,39 @@
 // The 24 fields of a frame by name: read off 20 bytes, written to them, and a gain index of two of them: bits.rs, and the two changes that mod.rs makes.
 #![tactic(auto)]
 
-ghost use Rattle.std.specs.Prelude.{◌≡◌, ◌+◌, ◌^◌, ◌<◌, ◌≤◌, leb, get_or, replicate};
+ghost use Rattle.std.specs.Prelude.{◌≡◌, ◌+◌, ◌^◌, ◌<◌, ◌≤◌, leb, get_or, [], ◌∷◌};
 ghost use Rattle.bits.specs.Bits as Bits;
+ghost use Rattle.refusal.specs.Numbers.{told};
 
-use bits::{FrameParams, HalfParams, Unpacked, gather, put_bytes, spread, width};
-
-// Four fields, one after the other: a half is read by three of them, which is proved sooner than twelve reads in a row.
-#[derive(Drop)]
-struct Quad {
-    a: u16,
-    b: u16,
-    c: u16,
-    d: u16,
-}
+use bits::{FrameParams, HalfParams, gather, put_bytes, spread, width};
+use refusal::Refusal;
 
 // Has v more than w digits?
 fn over(v: u16, w: usize) -> bool
     requires { w < 32 }
     ensures { result ≡ leb (2 ^ w) v }
 {
-    1u32 << w <= v as u32
+    1 << w <= u32::from(v)
 }
 
-// 8 where a field is wider than its bits, else 0.
-fn width_number(fields: [u16; 24]) -> u8
-    ensures { result ≡ Bits.width_number fields }
+// Refused where a field is wider than its bits.
+fn check_widths(fields: [u16; 24]) -> Result<(), Refusal>
+    ensures { told result ≡ Bits.width_number fields }
 {
-    let mut k: usize = 0;
-    while k < 24 {
+    for k in 0..24 {
         if over(fields[k], width(k)) {
-            return 8;
+            return Err(Refusal::FieldWidth);
         }
-        k += 1;
     }
-    0
+    Ok(())
 }
 
-// Those from a place on.
-fn four(fields: [u16; 24], at: usize) -> Quad
+// Four fields from a place on: a half is read by three of them, which is proved sooner than twelve reads in a row.
+fn four(fields: [u16; 24], at: usize) -> [u16; 4]
     requires { at ≤ 20 }
-    ensures { result ≡ record { a = get_or fields at 0; b = get_or fields (at + 1) 0; c = get_or fields (at + 2) 0; d = get_or fields (at + 3) 0 } }
+    ensures { result ≡ get_or fields at 0 ∷ get_or fields (at + 1) 0 ∷ get_or fields (at + 2) 0 ∷ get_or fields (at + 3) 0 ∷ [] }
 {
-    Quad {
-        a: fields[at],
-        b: fields[at + 1],
-        c: fields[at + 2],
-        d: fields[at + 3],
-    }
+    [fields[at], fields[at + 1], fields[at + 2], fields[at + 3]]
 }
 
 // The fields of a half, of which the first is at a place.
@@ -55,22 +41,22 @@ pub fn half_params(fields: [u16; 24], at: usize) -> HalfParams
     requires { at ≤ 12 }
     ensures { result ≡ Bits.half_params fields at }
 {
-    let x = four(fields, at);
-    let y = four(fields, at + 4);
-    let z = four(fields, at + 8);
+    let [gain_low0, gain_low1, code0, code1] = four(fields, at);
+    let [gain_high0, gain_high1, mode, stage1] = four(fields, at + 4);
+    let [stage2_low, stage2_high, absolute_pitch, relative_pitch] = four(fields, at + 8);
     HalfParams {
-        gain_low0: x.a,
-        gain_low1: x.b,
-        code0: x.c,
-        code1: x.d,
-        gain_high0: y.a,
-        gain_high1: y.b,
-        mode: y.c,
-        stage1: y.d,
-        stage2_low: z.a,
-        stage2_high: z.b,
-        absolute_pitch: z.c,
-        relative_pitch: z.d,
+        gain_low0,
+        gain_low1,
+        code0,
+        code1,
+        gain_high0,
+        gain_high1,
+        mode,
+        stage1,
+        stage2_low,
+        stage2_high,
+        absolute_pitch,
+        relative_pitch,
     }
 }
 
@@ -108,80 +94,52 @@ pub fn list(f: FrameParams) -> [u16; 24]
     ]
 }
 
-// The fields of a payload, or the number that it is refused with.
-pub fn unpack(payload: &[u8]) -> Unpacked
+// The fields of a payload, or what it is refused for.
+pub fn unpack(payload: &[u8]) -> Result<FrameParams, Refusal>
     ensures { (result ≡ Bits.unpack payload.now) × (Bits.number result ≡ Bits.refusal payload.now) × (Bits.fields result ≡ Bits.fields_or_zero payload.now) }
 {
     if payload.len() != 20 {
-        return Unpacked::Refused(3);
+        return Err(Refusal::FrameLength);
     }
     if payload[19] & 0xc0 != 0 {
-        return Unpacked::Refused(6);
+        return Err(Refusal::Padding);
     }
     let mut fields = gather(payload);
     // absolute_pitch of the first half
-    fields[10] = fields[10] ^ 3;
+    fields[10] ^= 3;
     let first = half_params(fields, 0);
     let second = half_params(fields, 12);
-    Unpacked::Fields(FrameParams { first, second })
-}
-
-// 24 fields, each 0.
-fn no_fields() -> FrameParams
-    ensures { result ≡ Bits.frame_params (replicate 24 0) }
-{
-    let h = HalfParams {
-        gain_low0: 0,
-        gain_low1: 0,
-        code0: 0,
-        code1: 0,
-        gain_high0: 0,
-        gain_high1: 0,
-        mode: 0,
-        stage1: 0,
-        stage2_low: 0,
-        stage2_high: 0,
-        absolute_pitch: 0,
-        relative_pitch: 0,
-    };
-    FrameParams {
-        first: h,
-        second: h,
-    }
+    Ok(FrameParams { first, second })
 }
 
 // The fields that were read, or where the payload is refused 24 zeros.
-pub fn fields(u: Unpacked) -> FrameParams
+pub fn fields(u: Result<FrameParams, Refusal>) -> FrameParams
     ensures { result ≡ Bits.fields u }
 {
-    match u {
-        Unpacked::Fields(f) => f,
-        Unpacked::Refused(_) => no_fields(),
-    }
+    u.unwrap_or_default()
 }
 
 // Writes the frame of these fields, once none of them is refused.
-pub fn pack(f: FrameParams, out: &mut [u8]) -> u8
-    ensures { (result ≡ Bits.pack f out.old) × (out.new ≡ Bits.packed f out.old) }
+pub fn pack(f: FrameParams, out: &mut [u8]) -> Result<(), Refusal>
+    ensures number { told result ≡ Bits.pack f out.old }
+    ensures frame { out.new ≡ Bits.packed f out.old }
 {
     if out.len() != 20 {
-        return 3;
+        return Err(Refusal::FrameLength);
     }
     let mut fields = list(f);
-    let number = width_number(fields);
-    if number == 0 {
-        // absolute_pitch of the first half, changed back
-        fields[10] = fields[10] ^ 3;
-        let bits = spread(fields);
-        put_bytes(&bits, out);
-    }
-    number
+    check_widths(fields)?;
+    // absolute_pitch of the first half, changed back
+    fields[10] ^= 3;
+    let bits = spread(fields);
+    put_bytes(&bits, out);
+    Ok(())
 }
 
 fn joined(high: u16, low: u16) -> usize
     ensures { result ≡ Bits.joined high low }
 {
-    ((high % 8) as usize) * 16 + (low % 16) as usize
+    usize::from(high % 8) * 16 + usize::from(low % 16)
 }
 
 // The gain index of subframe `sub` of the half, 0 or 1.

@@ -12,17 +12,10 @@ const SAMPLES: usize = 20801;
 
 const NUMBERS: usize = 66;
 
-fn wide(x: u8) -> u64 {
-    x as u64
-}
-
 // A word as a number that is not negative: one below 0 as 65,536 more than its size.
 fn lifted(x: i16) -> u64 {
-    let n = numbers::size(numbers::wide_word(x));
-    if x < 0 {
-        return n % 65536 + 65536;
-    }
-    n
+    let n = u64::from(x.unsigned_abs());
+    if x < 0 { n + 65536 } else { n }
 }
 
 // A number more in a digest of 32 bits.
@@ -32,20 +25,16 @@ fn mixed(digest: u64, x: u64) -> u64 {
 
 fn words_in(digest: u64, words: &[i16]) -> u64 {
     let mut d = digest;
-    let mut i = 0;
-    while i < words.len() {
-        d = mixed(d, lifted(words[i]));
-        i += 1;
+    for x in words {
+        d = mixed(d, lifted(*x));
     }
     d
 }
 
 fn bytes_in(digest: u64, bytes: &[u8]) -> u64 {
     let mut d = digest;
-    let mut i = 0;
-    while i < bytes.len() {
-        d = mixed(d, wide(bytes[i]));
-        i += 1;
+    for x in bytes {
+        d = mixed(d, u64::from(*x));
     }
     d
 }
@@ -66,9 +55,9 @@ fn state_digest(s: State) -> u64 {
 fn say(rt: &HostRuntime, n: u64, last: bool) {
     numbers::say_digits(rt, n);
     if last {
-        pipe::write(rt, b"\n");
+        let _ = pipe::write(rt, b"\n");
     } else {
-        pipe::write(rt, b" ");
+        let _ = pipe::write(rt, b" ");
     }
 }
 
@@ -99,10 +88,10 @@ fn once(
         &mut numbers[..answers],
     );
     let state = r.state;
-    say(rt, wide(r.number), false);
-    say(rt, wide(r.rule), false);
+    say(rt, u64::from(r.number), false);
+    say(rt, u64::from(r.rule), false);
     say(rt, r.place as u64, false);
-    say(rt, wide(state.mark), false);
+    say(rt, u64::from(state.mark), false);
     say(rt, words_in(0, samples), false);
     say(rt, bytes_in(0, numbers), false);
     say(rt, state_digest(state), true);
@@ -115,20 +104,12 @@ struct Carried {
     digest: u64,
 }
 
-// The numbers and samples of n frames that one call gave.
-fn frames_in(digest: u64, n: usize, numbers: &[u8], samples: &[i16]) -> u64 {
+// The numbers and samples of the frames that one call gave.
+fn frames_in(digest: u64, numbers: &[u8], samples: &[i16]) -> u64 {
     let mut d = digest;
-    for k in 0..n {
-        if k < numbers.len() {
-            d = mixed(d, wide(numbers[k]));
-        }
-        if k < 64 {
-            let at = 320 * k;
-            let end = at + 320;
-            if end <= samples.len() {
-                d = words_in(d, &samples[at..end]);
-            }
-        }
+    for (number, frame) in numbers.iter().zip(samples.chunks_exact(320)) {
+        d = mixed(d, u64::from(*number));
+        d = words_in(d, frame);
     }
     d
 }
@@ -165,7 +146,7 @@ fn part(
     let next = r.state;
     Carried {
         state: next,
-        digest: frames_in(c.digest, n, numbers, samples),
+        digest: frames_in(c.digest, &numbers[..n], &samples[..room]),
     }
 }
 
@@ -176,13 +157,6 @@ fn filled(words: &[i16], bytes: &[u8], c: Carried, payloads: &[u8]) -> Carried {
     part(words, bytes, c, payloads, &mut samples, &mut numbers)
 }
 
-fn least(a: usize, b: usize) -> usize
-    requires { (0 < a) × (0 < b) }
-    ensures { (0 < result) × (result ≤ a) × (result ≤ b) }
-{
-    if a < b { a } else { b }
-}
-
 // All frames, so many bytes in a call.
 fn all(rt: &HostRuntime, words: &[i16], bytes: &[u8], start: State, frames: &[u8], size: usize)
     requires { 0 < size }
@@ -191,14 +165,11 @@ fn all(rt: &HostRuntime, words: &[i16], bytes: &[u8], start: State, frames: &[u8
         state: start,
         digest: 0,
     };
-    let mut at = 0;
-    while at < frames.len() {
-        let to = at + least(size, frames.len() - at);
-        c = filled(words, bytes, c, &frames[at..to]);
-        at = to;
+    for payloads in frames.chunks(size) {
+        c = filled(words, bytes, c, payloads);
     }
     let state = c.state;
-    say(rt, wide(state.mark), false);
+    say(rt, u64::from(state.mark), false);
     say(rt, c.digest, false);
     say(rt, state_digest(state), true);
 }
@@ -206,7 +177,7 @@ fn all(rt: &HostRuntime, words: &[i16], bytes: &[u8], start: State, frames: &[u8
 fn asked(x: i64) -> usize
     ensures { result < 65536 }
 {
-    (numbers::size(x) % 65536) as usize
+    (x.unsigned_abs() % 65536) as usize
 }
 
 fn question(
@@ -247,30 +218,22 @@ fn question(
 }
 
 fn each_line(rt: &HostRuntime, words: &[i16], bytes: &[u8], frames: &[u8], text: &[u8]) {
-    let mut at = 0;
-    while at < text.len() {
-        let q = questions::line(text, at);
-        let numbers = q.numbers;
-        question(rt, words, bytes, frames, q.count, numbers);
-        at = q.next;
-    }
+    asking::each(text, |q| {
+        question(rt, words, bytes, frames, q.count, q.numbers);
+    });
 }
 
 fn main(rt: HostRuntime) {
     let mut file = [0u8; 15835];
     let mut words = [0i16; 5963];
-    let got = pipe::read_file(&rt, b"tables.bin", &mut file);
-    let n = got.n;
-    let number = table_file::check_file(&file[..n], &mut words);
-    if number != 0 {
-        say(&rt, wide(number), true);
+    let n = pipe::moved(pipe::read_file(&rt, b"tables.bin", &mut file));
+    if let Err(why) = table_file::check_file(&file[..n], &mut words) {
+        say(&rt, u64::from(why.number()), true);
         return;
     }
     let mut frames = [0u8; 1400];
-    let read = pipe::read_file(&rt, b"frames.bin", &mut frames);
-    let m = read.n;
+    let m = pipe::moved(pipe::read_file(&rt, b"frames.bin", &mut frames));
     let mut text = io::buffer();
-    let asked = pipe::read(&rt, &mut text);
-    let k = asked.n;
+    let k = pipe::read(&rt, &mut text).unwrap_or(0);
     each_line(&rt, &words, &file[11926..15834], &frames[..m], &text[..k]);
 }

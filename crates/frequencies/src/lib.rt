@@ -7,6 +7,8 @@ ghost use Rattle.std.specs.Float.Ieee.{lt};
 ghost use Rattle.tables.specs.Places.{BYTES};
 ghost use Rattle.spectral.specs.Spectral as Spectral;
 
+use std::array;
+
 // The sum of four products, worked left to right.
 fn sum_at(history: &[f32; 30], residual: &[f32; 10], bytes: &[u8], mode: usize, k: usize) -> f32
     requires fact_1 { length bytes.now ≡ BYTES }
@@ -27,58 +29,43 @@ fn sums(history: &[f32; 30], residual: &[f32; 10], bytes: &[u8], mode: usize) ->
     requires fact_2 { mode < 2 }
     ensures { result ≡ Spectral.sums history.now residual.now bytes.now mode }
 {
-    let mut out = [0.0f32; 10];
-    let mut k = 0usize;
-    while k < 10 {
-        out[k] = sum_at(history, residual, bytes, mode, k);
-        k += 1;
-    }
-    out
+    array::from_fn(|k| sum_at(history, residual, bytes, mode, k))
 }
 
 // Puts a[n] into its place among those after it: each smaller one moves one place down.
-fn insert(a: [f32; 10], n: usize) -> [f32; 10]
+fn insert(a: &mut [f32; 10], n: usize)
     requires { n < 10 }
-    ensures { result ≡ take n a ++ Spectral.insert lt (get_or a n nan) (drop (n + 1) a) }
+    ensures { a.new ≡ take n a.old ++ Spectral.insert lt (get_or a.old n nan) (drop (n + 1) a.old) }
 {
     let x = a[n];
-    let mut out = a;
     let mut j = n;
-    while j < 9 {
-        let y = out[j + 1];
-        if y < x {
-            out[j] = y;
-            j += 1;
-        } else {
-            break;
-        }
+    // Not counted: it goes on as long as the next is smaller.
+    while j < 9 && a[j + 1] < x {
+        a[j] = a[j + 1];
+        j += 1;
     }
-    out[j] = x;
-    out
+    a[j] = x;
 }
 
-// The ten in rising order.
+// The ten in rising order. `sort_by(f32::total_cmp)` would move a NaN, and a negative zero before zero; here each stays where it stood.
 fn sort(a: [f32; 10]) -> [f32; 10]
     ensures { result ≡ Spectral.sort lt a }
 {
     let mut out = a;
-    let mut n = 10usize;
-    while n > 0 {
-        n -= 1;
-        let t = insert(out, n);
-        out = t;
+    for n in (0..10).rev() {
+        insert(&mut out, n);
     }
     out
 }
 
-// `f32::max`, for a b that is no NaN.
+// `f32::max`, for a b that is no NaN: of two zeros that promises either, and the definition says which.
 fn larger(a: f32, b: f32) -> f32
     ensures { result ≡ Spectral.larger a b }
 {
     if a >= b { a } else { b }
 }
 
-// `f32::min`, for a b that is no NaN.
+// `f32::min`, likewise.
 fn smaller(a: f32, b: f32) -> f32
     ensures { result ≡ Spectral.smaller a b }
 {
@@ -92,11 +79,9 @@ fn spread(a: [f32; 10]) -> [f32; 10]
     let mut out = [0.0f32; 10];
     let mut prior = larger(a[0], 41.0);
     out[0] = prior;
-    let mut k = 1usize;
-    while k < 10 {
+    for k in 1..10 {
         prior = larger(a[k], prior + 321.0);
         out[k] = prior;
-        k += 1;
     }
     out[9] = smaller(prior, 25682.0);
     out

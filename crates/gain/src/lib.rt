@@ -21,6 +21,7 @@ pub struct Decoded {
     pub gains: [f32; 4],
 }
 
+// `e.max(1.0)`; but of two that are equal that promises either, and the definition says which.
 fn at_least_one(e: f32) -> f32
     ensures { result ≡ Gain.at_least_one e }
 {
@@ -69,12 +70,9 @@ pub fn step(gains: [f32; 4], e: f32, pitch_gain: f32, correction: f32, bias: f32
     ensures { result ≡ Gain.step gains e pitch_gain correction bias }
 {
     let x = prediction(gains, e, bias) + correction;
-    let code = code_gain(argument(x));
-    let pitch = floats::quantise(32767, pitch_gain);
-    let shifted = [correction, gains[0], gains[1], gains[2]];
     Decoded {
-        pitch_gain: pitch,
-        code_gain: code,
-        gains: shifted,
+        pitch_gain: floats::quantise(32767, pitch_gain),
+        code_gain: code_gain(argument(x)),
+        gains: [correction, gains[0], gains[1], gains[2]],
     }
 }

@@ -44,7 +44,6 @@ pub extern "C" fn gain_decode(
     let d = gain_state::decode(bytes, *gains, index, code);
     let next = d.gains;
     *gains = next;
-    let p = d.pitch_gain;
-    *pitch_gain = p;
+    *pitch_gain = d.pitch_gain;
     d.code_gain
 }

@@ -7,12 +7,13 @@ ghost use Rattle.gain.specs.Gain as Gain;
 
 use gain::Decoded;
 
+#[tactic(auto, unfolding(gain::specs::Gain::square))]
 fn square(c: i16) -> u64
     ensures is { result ≡ Gain.square c }
     ensures small { result ≤ 1073741824 }
 {
-    let w = c as i32;
-    (w * w) as u64
+    let size = u32::from(c.unsigned_abs());
+    u64::from(size * size)
 }
 
 fn squares(code: &[i16; 80]) -> u64
@@ -20,10 +21,8 @@ fn squares(code: &[i16; 80]) -> u64
     ensures small { result ≤ 85899345920 }
 {
     let mut n = 0u64;
-    let mut i = 0usize;
-    while i < 80 {
-        n += square(code[i]);
-        i += 1;
+    for &c in code {
+        n += square(c);
     }
     n
 }
@@ -32,7 +31,7 @@ fn squares(code: &[i16; 80]) -> u64
 pub fn energy(code: &[i16; 80]) -> f32
     ensures { result ≡ Gain.energy code.now }
 {
-    floats::nearest(squares(code)) / 80.0
+    std::num::nearest_u64_to_f32(squares(code)) / 80.0
 }
 
 // The gains of a subframe, by its gain index and its code, and the history after it.
@@ -67,10 +66,8 @@ fn mean(bytes: &[u8]) -> f32
     ensures { result ≡ Gain.mean bytes.now }
 {
     let mut t = 0.0f32;
-    let mut i = 0usize;
-    while i < 128 {
-        t = t + tables::log_gain(bytes, i);
-        i += 1;
+    for i in 0..128 {
+        t += tables::log_gain(bytes, i);
     }
     t / 128.0
 }
@@ -80,6 +77,5 @@ pub fn initial_history(bytes: &[u8]) -> [f32; 4]
     requires { length bytes.now ≡ BYTES }
     ensures { result ≡ Gain.initial_history bytes.now }
 {
-    let m = mean(bytes);
-    [m, m, m, m]
+    [mean(bytes); 4]
 }

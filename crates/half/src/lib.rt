@@ -25,7 +25,7 @@ pub struct SubframeParams {
     pub gain_index: usize,
 }
 
-// Those of both subframes of a half.
+// Those of both subframes of a half. No type parameter shared with lsp's Pair: two fields are as short, and the definitions name their type.
 #[derive(Clone, Copy)]
 pub struct ParamsPair {
     pub first: SubframeParams,

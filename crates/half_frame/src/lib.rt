@@ -18,7 +18,6 @@ use half::{
 use lsp::interpolate_pair;
 use output_filter::OutputFilter;
 use pitch::{decode_absolute, decode_relative};
-use slices::copy;
 
 // What the fields and the spectrum settle of both subframes of a half.
 fn split_params(previous: [i16; 10], present: [i16; 10], params: HalfParams) -> ParamsPair
@@ -51,7 +50,7 @@ fn room(past: [i16; 154]) -> [i16; 314]
     ensures { result ≡ Spec.room past }
 {
     let mut exc = [0i16; 314];
-    copy(&mut exc[..154], &past[..]);
+    exc[..154].copy_from_slice(&past);
     exc
 }
 
@@ -60,7 +59,7 @@ fn kept(exc: &[i16]) -> [i16; 154]
     ensures { result ≡ Spec.kept exc.now }
 {
     let mut past = [0i16; 154];
-    copy(&mut past[..], &exc[160..314]);
+    past.copy_from_slice(&exc[160..314]);
     past
 }
 
@@ -90,13 +89,18 @@ fn synthesise_both(
     ensures left { result ≡ Spec.synthesis_left first second memory }
     ensures samples { samples.new ≡ Spec.synthesised first second memory }
 {
-    let a = first.lpc;
-    let x = first.mixed_excitation;
-    let between = synthesise(a, x, memory, &mut samples[..80]);
-    let m = between.memory;
-    let b = second.lpc;
-    let y = second.mixed_excitation;
-    let behind = synthesise(b, y, m, &mut samples[80..]);
+    let between = synthesise(
+        first.lpc,
+        first.mixed_excitation,
+        memory,
+        &mut samples[..80],
+    );
+    let behind = synthesise(
+        second.lpc,
+        second.mixed_excitation,
+        between.memory,
+        &mut samples[80..],
+    );
     let left = behind.memory;
     Synthesised {
         memory: left,
@@ -113,11 +117,9 @@ fn filter_both(filter: OutputFilter, words: &[i16], samples: &mut [i16]) -> Filt
     ensures samples { samples.new ≡ Postfilter.outputs words.now filter samples.old }
 {
     let between = postfilter::run(filter, words, &mut samples[..80]);
-    let f = between.filter;
-    let behind = postfilter::run(f, words, &mut samples[80..]);
-    let left = behind.filter;
+    let behind = postfilter::run(between.filter, words, &mut samples[80..]);
     Filtered {
-        filter: left,
+        filter: behind.filter,
         first: between.clipped,
         second: behind.clipped,
     }
@@ -140,72 +142,56 @@ pub fn decode(
     ensures half { result ≡ Spec.half words.now bytes.now core lsp params }
     ensures samples { samples.new ≡ Spec.samples words.now bytes.now core lsp params }
 {
-    let previous = core.lsp;
-    let past = core.excitation;
-    let past_gains = core.gains;
-    let memory = core.memory;
-    let filter = core.filter;
-    let sharpen_fixed = core.sharpen_fixed;
-    let last_half_lag = core.last_half_lag;
-    let pair = split_params(previous, lsp, params);
-    let one = pair.first;
-    let two = pair.second;
-    let mut exc = room(past);
+    let pair = split_params(core.lsp, lsp, params);
+    let mut exc = room(core.excitation);
     let a = subframe::decode_subframe(
         words,
         bytes,
         &mut exc,
         154,
-        one,
-        sharpen_fixed,
-        last_half_lag,
-        past_gains,
+        pair.first,
+        core.sharpen_fixed,
+        core.last_half_lag,
+        core.gains,
     );
-    let c = a.subframe;
-    let first = c.trace;
-    let between = c.gains;
+    let first = a.subframe;
     let b = subframe::decode_subframe(
         words,
         bytes,
         &mut exc,
         234,
-        two,
-        c.sharpen_fixed,
-        last_half_lag,
-        between,
+        pair.second,
+        first.sharpen_fixed,
+        core.last_half_lag,
+        first.gains,
     );
-    let d = b.subframe;
-    let second = d.trace;
-    let after = d.gains;
-    let lag = second.lag;
-    let left = synthesise_both(first, second, memory, samples);
-    let run = filter_both(filter, words, samples);
+    let second = b.subframe;
+    let left = synthesise_both(first.trace, second.trace, core.memory, samples);
+    let run = filter_both(core.filter, words, samples);
     let excitation = kept(&exc[..]);
-    let mem = left.memory;
-    let state = run.filter;
-    let p = a.counts;
-    let q = b.counts;
+    let memory = left.memory;
+    let gains = second.gains;
     Half {
         core: Core {
             lsp,
             excitation,
-            memory: mem,
-            sharpen_fixed: d.sharpen_fixed,
-            last_half_lag: lag.integer,
-            filter: state,
-            gains: after,
+            memory,
+            sharpen_fixed: second.sharpen_fixed,
+            last_half_lag: second.trace.lag.integer,
+            filter: run.filter,
+            gains,
         },
-        first,
-        second,
+        first: first.trace,
+        second: second.trace,
         first_clipped: Clipped {
-            prediction: p.prediction,
-            mixing: p.mixing,
+            prediction: a.counts.prediction,
+            mixing: a.counts.mixing,
             synthesis: left.first,
             output: run.first,
         },
         second_clipped: Clipped {
-            prediction: q.prediction,
-            mixing: q.mixing,
+            prediction: b.counts.prediction,
+            mixing: b.counts.mixing,
             synthesis: left.second,
             output: run.second,
         },

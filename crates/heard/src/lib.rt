@@ -3,6 +3,7 @@
 
 ghost use Rattle.std.specs.Prelude.{◌≡◌, ◌&&◌, ◌≤◌, length};
 ghost use Rattle.io.specs.Counts.{IsPrefixLen};
+ghost use Rattle.refusal.specs.Numbers as Numbers;
 ghost use Rattle.tables.specs.Places.{WORDS};
 ghost use Rattle.stream.specs.Room.{over};
 ghost use Rattle.table_file.specs.File as File;
@@ -12,6 +13,7 @@ ghost use Rattle.heard.specs.Start as Start;
 ghost use Rattle.state.specs.State.{missed_frame, reset};
 
 use hex_lines::Line;
+use refusal::Refusal;
 use state::State;
 use tables::Fault;
 
@@ -62,14 +64,15 @@ fn idle() -> Recorder
 }
 
 // A table file that is refused: its line goes over the beginning of room. The answer is its length.
-fn refuse(number: u8, words: &[i16], file: &[u8], room: &mut [u8]) -> usize
-    requires fact_1 { number ≡ File.check_file file.now }
-    requires fact_2 { (number ≡ 4 → Start.Tables words.now file.now) }
+fn refuse(why: Refusal, words: &[i16], file: &[u8], room: &mut [u8]) -> usize
+    requires fact_1 { Numbers.number why ≡ File.check_file file.now }
+    requires fact_2 { (Numbers.number why ≡ 4 → Start.Tables words.now file.now) }
     requires fact_3 { 40 ≤ length room.old }
-    ensures length { result ≡ length (Recording.tables_text number file.now) }
-    ensures text { room.new ≡ over (Recording.tables_text number file.now) room.old }
+    ensures length { result ≡ length (Recording.tables_text (Numbers.number why) file.now) }
+    ensures text { room.new ≡ over (Recording.tables_text (Numbers.number why) file.now) room.old }
 {
-    if number == 4 {
+    let number = why.number();
+    if let Refusal::TablesRule = why {
         let told = rules::first_fault(words, &file[11926..]);
         return table_file::put_tables_refused(number, told, room);
     }
@@ -86,19 +89,17 @@ pub fn begin(file: &[u8], words: &mut [i16], room: &mut [u8]) -> Started
     ensures ready { result.number ≡ 0 → Start.Tables words.new file.now }
     ensures fits { IsPrefixLen result.n room.new }
 {
-    let number = table_file::check_file(file, words);
-    if number != 0 {
-        let n = refuse(number, words, file, room);
-        return Started {
+    match table_file::check_file(file, words) {
+        Err(why) => Started {
+            n: refuse(why, words, file, room),
             recorder: idle(),
-            number,
-            n,
-        };
-    }
-    Started {
-        recorder: from_cold(words, &file[11926..]),
-        number: 0,
-        n: 0,
+            number: why.number(),
+        },
+        Ok(()) => Started {
+            recorder: from_cold(words, &file[11926..]),
+            number: 0,
+            n: 0,
+        },
     }
 }
 

@@ -8,6 +8,8 @@ ghost use Rattle.stream.specs.Room.{over};
 ghost use Rattle.hex_lines.specs.Text as Text;
 ghost use Rattle.hex_lines.specs.Held as Held;
 
+use std::array;
+
 // What is kept of the line that is coming in: its first 40 bytes, and how many it has, counted to 41.
 #[derive(Clone, Copy)]
 pub struct Line {
@@ -40,29 +42,28 @@ pub fn push(line: Line, b: u8) -> Line
 }
 
 // What a digit of either case is worth; 16 for any other byte.
+// 16 and no Option, since the definition that theorems hold, `Text.value`, gives 16.
 pub fn value(c: u8) -> u8
     ensures { result ≡ Text.value c }
 {
     match c {
-        b'0'..=b'9' => c - 48,
-        b'a'..=b'f' => c - 87,
-        b'A'..=b'F' => c - 55,
+        b'0'..=b'9' => c - b'0',
+        b'a'..=b'f' => c - b'a' + 10,
+        b'A'..=b'F' => c - b'A' + 10,
         _ => 16,
     }
 }
 
-fn all_digits(text: [u8; 40]) -> bool
-    ensures { result ≡ all Text.is_digit text }
+fn is_digit(c: u8) -> bool
+    ensures { result ≡ Text.is_digit c }
 {
-    let mut i = 0;
-    while i < 40 {
-        if value(text[i]) < 16 {
-            i += 1;
-        } else {
-            return false;
-        }
-    }
-    true
+    value(c) < 16
+}
+
+fn all_digits(text: &[u8]) -> bool
+    ensures { result ≡ all Text.is_digit text.now }
+{
+    text.iter().all(|&c| is_digit(c))
 }
 
 // Whether the line that is held is a frame.
@@ -70,22 +71,23 @@ pub fn held_frame(line: Line) -> bool
     ensures frame { result ≡ Text.is_frame (Held.held_line line) }
     ensures whole { result ≡ true → (line.n ≡ 40) × (Held.held_line line ≡ line.text) }
 {
-    if line.n != 40 {
-        return false;
-    }
-    let text = line.text;
-    all_digits(text)
+    line.n == 40 && all_digits(&line.text)
 }
 
 // Whether the line that is held is this one byte.
 pub fn is_only(line: Line, b: u8) -> bool
     ensures { result ≡ Text.is_only b (Held.held_line line) }
 {
-    if line.n != 1 {
-        return false;
-    }
-    let text = line.text;
-    text[0] == b
+    line.n == 1 && line.text[0] == b
+}
+
+// Byte k of those that 40 digits spell.
+fn byte_at(text: &[u8; 40], k: usize) -> u8
+    requires digits { all Text.is_digit text.now ≡ true }
+    requires below { k < 20 }
+    ensures { result ≡ Text.byte_at text.now k }
+{
+    16 * value(text[2 * k]) + value(text[2 * k + 1])
 }
 
 // The bytes of 40 digits.
@@ -93,13 +95,7 @@ pub fn payload(text: [u8; 40]) -> [u8; 20]
     requires { all Text.is_digit text ≡ true }
     ensures { result ≡ Text.payload text }
 {
-    let mut bytes = [0u8; 20];
-    let mut k = 0;
-    while k < 20 {
-        bytes[k] = 16 * value(text[2 * k]) + value(text[2 * k + 1]);
-        k += 1;
-    }
-    bytes
+    array::from_fn(|k| byte_at(&text, k))
 }
 
 // The digit of a number below 16, lower-case.
@@ -107,7 +103,7 @@ pub fn digit(n: u8) -> u8
     requires { n < 16 }
     ensures { result ≡ Text.digit n }
 {
-    if n < 10 { 48 + n } else { 87 + n }
+    if n < 10 { b'0' + n } else { b'a' + (n - 10) }
 }
 
 // The digit of a number's low four bits.
@@ -132,10 +128,9 @@ fn put_samples(samples: &[i16], out: &mut [u8], at: usize)
     requires { at + 4 * length samples.now ≤ length out.old }
     ensures { out.new ≡ sets out.old at (Text.sample_text samples.now) }
 {
-    let mut k = 0;
-    while k < samples.len() {
+    // By index: where the digits go follows from the place of the sample.
+    for k in 0..samples.len() {
         put_digits(tables::unsigned_word(samples, k), out, at + 4 * k);
-        k += 1;
     }
 }
 
@@ -158,8 +153,9 @@ fn refused_text(number: u8) -> [u8; 10]
     requires { number < 16 }
     ensures { result ≡ Text.refused_text number }
 {
-    let n = digit(number);
-    [b'r', b'e', b'f', b'u', b's', b'e', b'd', b' ', n, b'\n']
+    let mut text = *b"refused 0\n";
+    text[8] = digit(number);
+    text
 }
 
 // The line of a refusal. The answer is its length.

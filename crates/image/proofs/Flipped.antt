@@ -1,19 +1,22 @@
--- -1 - z, and a number below half of what its width holds.
-use Prim.Native.Nat.{ℕ, zero, suc, ◌<◌}
-use mathlib.Core.Path.{◌≡◌, refl, ap}
-use native.Mathlib.Omega.{arith}
-use lib.IntN.{pos, negsuc, ◌-ℤ◌}
-use borrow.Author.Tests.{lt-ltb}
+-- The library's two's complement is the definition's.
+use Rattle.std.specs.Prelude.{◌≡◌, Bool, true, false, ltb, ℕ, negsuc}
+use Rattle.std.proofs.Common.{refl, ap, arith}
 use mir.Syntax.{w16, w32}
 use mir.Val.{to_z}
+use Rattle.image.specs.Image.{signed}
 
-pub minus_pos : (n : ℕ) → negsuc 0 -ℤ pos n ≡ negsuc n
-minus_pos zero = refl
-minus_pos (suc n) = ap negsuc (omega arith)
+pub signed16 : (n : ℕ) → to_z w16 n ≡ signed 2 n
+unfolding signed
+signed16 n = by (ltb n 32768) refl
+  where
+    by : (b : Bool) → ltb n 32768 ≡ b → to_z w16 n ≡ signed 2 n
+    by true p = rw p
+    by false p = rw p (ap negsuc (omega arith))
 
--- a number below half of what its width holds reads as itself
-pub low16 : (m : ℕ) → m < 32768 → to_z w16 m ≡ pos m
-low16 m h = rw (lt-ltb m 32768 h)
-
-pub low32 : (m : ℕ) → m < 2147483648 → to_z w32 m ≡ pos m
-low32 m h = rw (lt-ltb m 2147483648 h)
+pub signed32 : (n : ℕ) → to_z w32 n ≡ signed 4 n
+unfolding signed
+signed32 n = by (ltb n 2147483648) refl
+  where
+    by : (b : Bool) → ltb n 2147483648 ≡ b → to_z w32 n ≡ signed 4 n
+    by true p = rw p
+    by false p = rw p (ap negsuc (omega arith))

@@ -39,23 +39,14 @@ pub const SIZE: usize = SURE + 1;
 fn word(low: u8, high: u8) -> i16
     ensures { result ≡ Image.signed 2 (low + 256 * high) }
 {
-    let n = (low as u16) + 256 * (high as u16);
-    if n < 32768 {
-        n as i16
-    } else {
-        -1 - ((65535 - n) as i16)
-    }
+    i16::from_le_bytes([low, high])
 }
 
 // A number of 32 bits with its sign.
 fn long(n: u32) -> i32
     ensures { result ≡ Image.signed 4 n }
 {
-    if n < 0x8000_0000 {
-        n as i32
-    } else {
-        -1 - ((0xffff_ffff - n) as i32)
-    }
+    n.cast_signed()
 }
 
 // The words from a place on, as many as `out` has.
@@ -63,10 +54,9 @@ pub fn read_words(bytes: &[u8], at: usize, out: &mut [i16])
     requires { at + 2 * length out.old ≤ length bytes.now }
     ensures { out.new ≡ map (Image.signed 2) (Parts.numbers_at 2 (length out.old) bytes.now at) }
 {
-    let mut k = 0;
-    while k < out.len() {
+    // By index: where the bytes stand follows from the place of the number.
+    for k in 0..out.len() {
         out[k] = word(bytes[at + 2 * k], bytes[at + 2 * k + 1]);
-        k += 1;
     }
 }
 
@@ -75,10 +65,9 @@ fn read_longs(bytes: &[u8], at: usize, out: &mut [i32])
     requires { at + 4 * length out.old ≤ length bytes.now }
     ensures { out.new ≡ map (Image.signed 4) (Parts.numbers_at 4 (length out.old) bytes.now at) }
 {
-    let mut k = 0;
-    while k < out.len() {
+    // By index: where the bytes stand follows from the place of the number.
+    for k in 0..out.len() {
         out[k] = long(floats::bits_at(bytes, at + 4 * k));
-        k += 1;
     }
 }
 
@@ -87,10 +76,9 @@ fn read_floats(bytes: &[u8], at: usize, out: &mut [f32])
     requires { at + 4 * length out.old ≤ length bytes.now }
     ensures { out.new ≡ map (of_bits binary32) (Parts.numbers_at 4 (length out.old) bytes.now at) }
 {
-    let mut k = 0;
-    while k < out.len() {
+    // By index: where the bytes stand follows from the place of the number.
+    for k in 0..out.len() {
         out[k] = floats::float_at(bytes, at + 4 * k);
-        k += 1;
     }
 }
 

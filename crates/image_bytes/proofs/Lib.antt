@@ -1,3 +1,1 @@
-mod Flipped
 mod Loops
-mod Nans

@@ -9,24 +9,12 @@ ghost use Rattle.image.specs.Bytes as Bytes;
 ghost use Rattle.image.specs.Parts as Parts;
 ghost use Rattle.image.specs.Image as Image;
 
+use std::num::f32_to_bits_with_nan;
+
 fn unsigned_long(x: i32) -> u32
     ensures { result ≡ Image.unsigned 4 x }
 {
-    if 0 <= x {
-        x as u32
-    } else {
-        0xffff_ffff - ((-1 - x) as u32)
-    }
-}
-
-// A float's bits. `f32::to_bits` asks for one that is no NaN.
-fn to_bits(x: f32) -> u32
-    ensures { result ≡ to_bits binary32 x }
-{
-    if x != x {
-        return 0x7fc0_0000;
-    }
-    f32::to_bits(x)
+    x.cast_unsigned()
 }
 
 fn put_word(n: u16, room: &mut [u8], at: usize)
@@ -53,10 +41,9 @@ pub fn put_words(words: &[i16], room: &mut [u8], at: usize)
     requires { at + 2 * length words.now ≤ length room.old }
     ensures { room.new ≡ sets room.old at (Parts.bytes_of_all 2 (map (Image.unsigned 2) words.now)) }
 {
-    let mut k = 0;
-    while k < words.len() {
+    // By index: where the bytes go follows from the place of the number.
+    for k in 0..words.len() {
         put_word(tables::unsigned_word(words, k), room, at + 2 * k);
-        k += 1;
     }
 }
 
@@ -65,10 +52,9 @@ pub fn put_longs(longs: &[i32], room: &mut [u8], at: usize)
     requires { at + 4 * length longs.now ≤ length room.old }
     ensures { room.new ≡ sets room.old at (Parts.bytes_of_all 4 (map (Image.unsigned 4) longs.now)) }
 {
-    let mut k = 0;
-    while k < longs.len() {
+    // By index: where the bytes go follows from the place of the number.
+    for k in 0..longs.len() {
         put_long(unsigned_long(longs[k]), room, at + 4 * k);
-        k += 1;
     }
 }
 
@@ -77,9 +63,8 @@ pub fn put_floats(floats: &[f32], room: &mut [u8], at: usize)
     requires { at + 4 * length floats.now ≤ length room.old }
     ensures { room.new ≡ sets room.old at (Parts.bytes_of_all 4 (map (to_bits binary32) floats.now)) }
 {
-    let mut k = 0;
-    while k < floats.len() {
-        put_long(to_bits(floats[k]), room, at + 4 * k);
-        k += 1;
+    // By index: where the bytes go follows from the place of the number.
+    for k in 0..floats.len() {
+        put_long(f32_to_bits_with_nan(floats[k]), room, at + 4 * k);
     }
 }

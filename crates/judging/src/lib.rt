@@ -36,26 +36,24 @@ fn end_line(judge: Judge, used: usize, text: &[u8], held: &[u8], room: &mut [u8]
     ensures heard { result ≡ Talk.ended judge used text.now held.now }
     ensures text { room.new ≡ over (Talk.end_text judge text.now held.now) room.old }
 {
-    let said = judge.said;
     let k = verdict::least(judge.n);
     let n = verdict_text::put_round(
         judge.number,
-        &text[..said],
+        &text[..judge.said],
         &held[..k],
         judge.n <= 1283,
         room,
     );
-    let recorder = judge.recorder;
     if n == 0 {
         let number = verdict::next(judge.number);
         return Heard {
             judge: Judge {
-                recorder,
                 number,
                 said: 0,
                 n: 0,
                 theirs: false,
                 told: false,
+                ..judge
             },
             used,
             n: 0,
@@ -63,12 +61,9 @@ fn end_line(judge: Judge, used: usize, text: &[u8], held: &[u8], room: &mut [u8]
     }
     Heard {
         judge: Judge {
-            recorder,
-            number: judge.number,
-            said,
-            n: judge.n,
             theirs: true,
             told: true,
+            ..judge
         },
         used,
         n,
@@ -88,18 +83,15 @@ pub fn theirs(judge: Judge, text: &[u8], held: &mut [u8], chunk: &[u8], room: &m
     ensures used { result.used ≤ length chunk.now }
     ensures said { result.judge.said ≤ length text.now }
 {
-    let recorder = judge.recorder;
     if chunk.len() == 0 {
         if judge.n == 0 {
             let n = verdict_text::put_last(judge.number, judge.said, room);
             return Heard {
                 judge: Judge {
-                    recorder,
-                    number: judge.number,
-                    said: judge.said,
                     n: 0,
                     theirs: true,
                     told: true,
+                    ..judge
                 },
                 used: 0,
                 n,
@@ -110,12 +102,10 @@ pub fn theirs(judge: Judge, text: &[u8], held: &mut [u8], chunk: &[u8], room: &m
     let k = verdict::line_end(chunk);
     let n = verdict::push_all(held, judge.n, &chunk[..k]);
     let more = Judge {
-        recorder,
-        number: judge.number,
-        said: judge.said,
         n,
         theirs: true,
         told: false,
+        ..judge
     };
     if k == chunk.len() {
         return Heard {

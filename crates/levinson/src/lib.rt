@@ -2,11 +2,13 @@
 #![tactic(auto)]
 
 ghost use Rattle.std.specs.Prelude.{◌≡◌, ◌<◌, pos, length, get_or, set};
+ghost use Rattle.std.specs.Int.{from_bool};
 ghost use Rattle.reflection.specs.Reflection as Levinson;
 
 use fixed::{acc, fold, hi, mul, mul32x16, sat, shift};
-use reciprocal::{exponent, normalised_reciprocal, quotient, zeros};
+use reciprocal::normalised_reciprocal;
 use reflection::Reflection;
+use std::array;
 
 // 1 - k^2 in Q30: zero or negative for a k of 4096 or more.
 fn residual(kv: i16) -> i64
@@ -53,29 +55,25 @@ fn update_all(k: &mut [i16], top: usize, kv: i16, inverse: i16, scale: i32)
     }
 }
 
-// A step: the coefficient at top is peeled off, and the numbers before it are divided by its residual. 1 where that is 0.
+// A step: the coefficient at top is peeled off, and the numbers before it are divided by its residual. Whether that is 0 is the answer.
 // The Rust reads the exponent as a signed 5-bit field, which it is already.
-fn step(k: &mut [i16], top: usize) -> u8
+fn step(k: &mut [i16], top: usize) -> bool
     requires { (length k.old ≡ 10) × (top < 10) }
     ensures numbers { k.new ≡ Levinson.step top k.old }
-    ensures zero { result ≡ Levinson.zero_residual (get_or k.old top (pos 0)) }
+    ensures zero { from_bool result ≡ Levinson.zero_residual (get_or k.old top (pos 0)) }
 {
     let kv = k[top];
     let r = normalised_reciprocal(residual(kv));
-    let inverse = hi(shift(quotient(r), -1));
-    update_all(k, top, kv, inverse, exponent(r));
-    zeros(r)
+    let inverse = hi(shift(r.quotient(), -1));
+    update_all(k, top, kv, inverse, r.exponent());
+    r.is_zero()
 }
 
 // The numbers after the first, which is 1.
 fn tail(lpc: [i16; 11]) -> [i16; 10]
     ensures { result ≡ Levinson.tail lpc }
 {
-    let mut k = [0i16; 10];
-    for n in 0..10 {
-        k[n] = lpc[n + 1];
-    }
-    k
+    array::from_fn(|n| lpc[n + 1])
 }
 
 // LPC numbers to reflection coefficients, by the Levinson recursion backwards.
@@ -84,8 +82,10 @@ pub fn reflection_coefficients(lpc: [i16; 11]) -> Reflection
 {
     let mut k = tail(lpc);
     let mut zeros = 0u8;
+    // (from 9 down to 1; counted up, as the definition counts its steps)
     for n in 0..9 {
-        zeros += step(&mut k[..], 9 - n);
+        let is_zero = step(&mut k[..], 9 - n);
+        zeros += u8::from(is_zero);
     }
     Reflection {
         coefficients: k,

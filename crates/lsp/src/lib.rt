@@ -7,6 +7,7 @@ ghost use Rattle.fixed.specs.Fixed as Fixed;
 ghost use Rattle.lsp.specs.Lsp as Lsp;
 
 use fixed::{fold, hi, low, mul, mul32x16, shift, trunc32};
+use std::array;
 
 // Where an LSF stands in the cosine table, in 256ths of an entry: 20861 in Q15, doubled, is 4/pi.
 fn position(lsf: i16) -> usize
@@ -20,8 +21,7 @@ fn position(lsf: i16) -> usize
 fn entry(p: usize) -> usize
     ensures { result ≡ Lsp.entry p }
 {
-    let e = p / 256;
-    if 63 < e { 63 } else { e }
+    (p / 256).min(63)
 }
 
 // One LSF to its LSP.
@@ -43,11 +43,7 @@ pub fn lsf_to_lsp(words: &[i16], lsf: [i16; 10]) -> [i16; 10]
     requires fact_2 { ((k : ℕ) → k < 10 → pos 0 ≤ℤ get_or lsf k (pos 0)) }
     ensures { result ≡ Lsp.lsf_to_lsp words.now lsf }
 {
-    let mut lsp = [0i16; 10];
-    for i in 0..10 {
-        lsp[i] = cosine(words, lsf[i]);
-    }
-    lsp
+    array::from_fn(|i| cosine(words, lsf[i]))
 }
 
 // A sum, stored in 32 bits.
@@ -110,11 +106,7 @@ fn coefficient(l: i16, i: usize, f: [i32; 6], j: usize) -> i32
 fn next_polynomial(l: i16, i: usize, f: [i32; 6]) -> [i32; 6]
     ensures { result ≡ Lsp.next_polynomial l i f }
 {
-    let mut next = [0i32; 6];
-    for j in 0..6 {
-        next[j] = coefficient(l, i, f, j);
-    }
-    next
+    array::from_fn(|j| coefficient(l, i, f, j))
 }
 
 // Here the negative is of 64 bits.
@@ -131,6 +123,7 @@ fn lsp_polynomial(lsp: [i16; 10], first: usize) -> [i32; 6]
 {
     let mut f = first_polynomial(lsp[first]);
     for n in 0..4 {
+        // The proof's generator takes no array of a call straight into one that is there.
         let next = next_polynomial(negated(lsp[first + 2 * (n + 1)]), n + 2, f);
         f = next;
     }
@@ -191,11 +184,7 @@ pub fn lsp_to_lpc(lsp: [i16; 10]) -> [i16; 11]
 {
     let f = lsp_polynomial(lsp, 0);
     let g = lsp_polynomial(lsp, 1);
-    let mut lpc = [0i16; 11];
-    for n in 0..11 {
-        lpc[n] = predictor(f, g, n);
-    }
-    lpc
+    array::from_fn(|n| predictor(f, g, n))
 }
 
 // Rounded down.
@@ -209,13 +198,10 @@ fn midway(x: i16, y: i16) -> i16
 pub fn midpoint(first: [i16; 10], second: [i16; 10]) -> [i16; 10]
     ensures { result ≡ Lsp.midpoint first second }
 {
-    let mut out = [0i16; 10];
-    for i in 0..10 {
-        out[i] = midway(first[i], second[i]);
-    }
-    out
+    array::from_fn(|i| midway(first[i], second[i]))
 }
 
+// No type parameter shared with half's ParamsPair: two fields are as short, and the definitions name their type.
 #[derive(Clone, Copy)]
 pub struct Pair {
     pub first: [i16; 11],

@@ -103,6 +103,14 @@ passes_short opens c e = by (eqb (length c) 1) (eqb (length c) 40) opens refl re
     by false false true p q z = absurd (false≢true z)
     by false false false p q z = absurd (false≢true z)
 
+-- and what is kept of a line is all of it
+pub passes_held : (opens : Bool) (l : Line) → length l.text ≡ 40 → passes opens (Held.held_line l) ≡ true → l.n ≤ 40
+unfolding Held.held_line
+passes_held opens l w e =
+    let p = passes_short opens (Held.held_line l) e in
+    let h = shown_long 40 l.text l.n w in
+    omega arith
+
 module _ (c : List ℕ) where
   pub held_only : (b : ℕ) → is_only b (Held.held_line (Held.kept c)) ≡ is_only b c
   unfolding Held.held_line Held.kept

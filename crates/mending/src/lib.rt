@@ -2,14 +2,15 @@
 #![tactic(auto)]
 
 ghost use Rattle.std.specs.Prelude.{◌≡◌, true, ◌&&◌, ◌||◌, ◌+◌, ◌≤◌, min, length};
-ghost use Rattle.std.proofs.lemmas.List.Edits.{sets};
 ghost use Rattle.stream.specs.Room.{over};
 ghost use Rattle.hex_lines.specs.Text as Text;
 ghost use Rattle.hex_lines.specs.Held as Held;
+ghost use Rattle.writer.specs.Wrote.{Wrote};
 ghost use Rattle.mending.specs.Repair as Repair;
 ghost use Rattle.mending.specs.Look as Look;
 
 use hex_lines::Line;
+use writer::Writer;
 
 // Where a file stands between two lines: the next line's number, and whether a `+` is in its place there.
 #[derive(Clone, Copy)]
@@ -35,72 +36,43 @@ pub struct Ended {
     pub listed: usize,
 }
 
-fn is_capital(b: u8) -> bool
-    ensures { result ≡ Repair.is_capital b }
-{
-    match b {
-        b'A'..=b'Z' => true,
-        _ => false,
-    }
-}
-
 // A byte more of the line.
+#[tactic(auto, unfolding(crate::specs::Look::looked, crate::specs::Repair::is_return, crate::specs::Repair::is_blank, crate::specs::Repair::is_capital))]
 fn look_at(found: Found, b: u8) -> Found
     ensures { result ≡ Look.looked found b }
 {
-    let line = found.line;
-    let returns = found.returns;
-    let blanks = found.blanks;
-    let letters = found.letters;
-    if b == b'\r' {
-        return Found {
-            line,
+    match b {
+        b'\r' => Found {
             returns: true,
-            blanks,
-            letters,
-        };
-    }
-    if b == b' ' {
-        return Found {
-            line,
-            returns,
+            ..found
+        },
+        b' ' => Found {
             blanks: true,
-            letters,
-        };
-    }
-    if is_capital(b) {
-        let lowered = hex_lines::push(line, b + 32);
-        return Found {
-            line: lowered,
-            returns,
-            blanks,
+            ..found
+        },
+        b'A'..=b'Z' => Found {
+            line: hex_lines::push(found.line, b.to_ascii_lowercase()),
             letters: true,
-        };
-    }
-    let more = hex_lines::push(line, b);
-    Found {
-        line: more,
-        returns,
-        blanks,
-        letters,
+            ..found
+        },
+        _ => Found {
+            line: hex_lines::push(found.line, b),
+            ..found
+        },
     }
 }
 
 fn look(line: &[u8]) -> Found
     ensures { result ≡ Look.found line.now }
 {
-    let none = hex_lines::empty();
     let mut found = Found {
-        line: none,
+        line: hex_lines::empty(),
         returns: false,
         blanks: false,
         letters: false,
     };
-    let mut i = 0;
-    while i < line.len() {
-        let b = line[i];
-        found = look_at(found, b);
-        i += 1;
+    for b in line {
+        found = look_at(found, *b);
     }
     found
 }
@@ -109,37 +81,28 @@ fn look(line: &[u8]) -> Found
 fn is_start(opens: bool, line: Line) -> bool
     ensures { result ≡ opens && Text.is_only 43 (Held.held_line line) }
 {
-    if opens {
-        return hex_lines::is_only(line, b'+');
-    }
-    false
+    opens && hex_lines::is_only(line, b'+')
 }
 
 // Whether a cleaned line is kept.
+#[tactic(auto, using(crate::specs::Looked::passes_held), unfolding(crate::specs::Repair::passes))]
 fn passes(opens: bool, line: Line) -> bool
     ensures kept { result ≡ Repair.passes opens (Held.held_line line) }
     ensures whole { result ≡ true → line.n ≤ 40 }
 {
-    if hex_lines::is_only(line, b'=') {
-        return true;
-    }
-    if is_start(opens, line) {
-        return true;
-    }
-    hex_lines::held_frame(line)
+    hex_lines::is_only(line, b'=') || is_start(opens, line) || hex_lines::held_frame(line)
 }
 
 // A line that is `-` already.
+#[tactic(auto, unfolding(hex_lines::specs::Text::is_only))]
 fn is_dash(line: &[u8]) -> bool
     ensures { result ≡ Text.is_only 45 line.now }
 {
-    if line.len() != 1 {
-        return false;
-    }
-    line[0] == b'-'
+    matches!(line, [b'-'])
 }
 
 // The cleaned line where it is kept, else `-`, over the beginning of out. The answer is its length.
+#[tactic(auto, using(crate::specs::Looked::held_short), unfolding(crate::specs::Look::chosen))]
 fn put_mended(kept: bool, line: Line, out: &mut [u8]) -> usize
     requires fact_1 { 41 ≤ length out.old }
     requires fact_2 { (kept ≡ true → line.n ≤ 40) }
@@ -148,16 +111,15 @@ fn put_mended(kept: bool, line: Line, out: &mut [u8]) -> usize
     ensures fits { result ≤ 40 }
 {
     if kept {
-        let n = line.n;
-        let text = line.text;
-        stream::put(&text[..n], out);
-        return n;
+        stream::put(&line.text[..line.n], out);
+        return line.n;
     }
     stream::put(b"-", out);
     1
 }
 
 // The same, with a newline behind it where the line had one.
+#[tactic(auto, unfolding(crate::specs::Look::chosen_line, crate::specs::Repair::said))]
 fn put_line(kept: bool, line: Line, ended: bool, out: &mut [u8]) -> usize
     requires fact_1 { 41 ≤ length out.old }
     requires fact_2 { (kept ≡ true → line.n ≤ 40) }
@@ -172,45 +134,36 @@ fn put_line(kept: bool, line: Line, ended: bool, out: &mut [u8]) -> usize
     n
 }
 
-// A word where it is said. The answer is the place behind it.
-fn put_word(is: bool, word: &[u8], n: usize, room: &mut [u8]) -> usize
-    requires { n + length word.now ≤ length room.old }
-    ensures next { result ≡ n + length (Repair.said is word.now) }
-    ensures text { room.new ≡ sets room.old n (Repair.said is word.now) }
-    ensures fits { result ≤ n + length word.now }
+// A word where it is said.
+#[tactic(auto, using(writer::specs::Wrote::wrote_none), unfolding(crate::specs::Repair::said))]
+fn put_word(out: &mut Writer, is: bool, word: &[u8])
+    requires { out.old.n + length word.now ≤ length out.old.room.now }
+    ensures wrote { Wrote out.old out.new (Repair.said is word.now) }
+    ensures fits { out.new.n ≤ out.old.n + length word.now }
 {
-    if is {
-        return stream::put_at(word, n, room);
+    if !is {
+        return;
     }
-    n
-}
-
-fn some(a: bool, b: bool, c: bool) -> bool
-    ensures { result ≡ a || (b || c) }
-{
-    if a {
-        return true;
-    }
-    if b {
-        return true;
-    }
-    c
+    out.put(word);
 }
 
 // The words that are said of a kept line, over the beginning of the list.
-fn put_changes(number: u64, returns: bool, blanks: bool, letters: bool, list: &mut [u8]) -> usize
+fn put_changes(number: u64, found: Found, list: &mut [u8]) -> usize
     requires { 41 ≤ length list.old }
-    ensures length { result ≡ length (Repair.entry number (Look.changes returns blanks letters)) }
-    ensures text { list.new ≡ over (Repair.entry number (Look.changes returns blanks letters)) list.old }
+    ensures length { result ≡ length (Repair.entry number (Look.changes found.returns found.blanks found.letters)) }
+    ensures text { list.new ≡ over (Repair.entry number (Look.changes found.returns found.blanks found.letters)) list.old }
 {
-    if !some(returns, blanks, letters) {
+    let changed = found.returns || found.blanks || found.letters;
+    if !changed {
         return 0;
     }
-    let a = stream::put_decimal(number, 0, list);
-    let b = put_word(returns, b" return", a, list);
-    let c = put_word(blanks, b" blank", b, list);
-    let d = put_word(letters, b" letter", c, list);
-    stream::put_at(b"\n", d, list)
+    let mut out = Writer { room: list, n: 0 };
+    out.put_decimal(number);
+    put_word(&mut out, found.returns, b" return");
+    put_word(&mut out, found.blanks, b" blank");
+    put_word(&mut out, found.letters, b" letter");
+    out.put(b"\n");
+    out.n
 }
 
 fn put_replaced(number: u64, list: &mut [u8]) -> usize
@@ -218,33 +171,26 @@ fn put_replaced(number: u64, list: &mut [u8]) -> usize
     ensures length { result ≡ length (Repair.entry number Repair.replaced) }
     ensures text { list.new ≡ over (Repair.entry number Repair.replaced) list.old }
 {
-    let a = stream::put_decimal(number, 0, list);
-    stream::put_at(b" replaced\n", a, list)
+    let mut out = Writer { room: list, n: 0 };
+    out.put_decimal(number);
+    out.put(b" replaced\n");
+    out.n
 }
 
 // What is told of a line, over the beginning of the list.
+#[tactic(auto, using(stream::specs::Room::over_none), unfolding(crate::specs::Look::told, crate::specs::Repair::entry))]
 fn put_entry(number: u64, kept: bool, dash: bool, found: Found, list: &mut [u8]) -> usize
     requires { 41 ≤ length list.old }
     ensures length { result ≡ length (Repair.entry number (Look.told kept dash found)) }
     ensures text { list.new ≡ over (Repair.entry number (Look.told kept dash found)) list.old }
 {
     if kept {
-        return put_changes(number, found.returns, found.blanks, found.letters, list);
+        return put_changes(number, found, list);
     }
     if dash {
         return 0;
     }
     put_replaced(number, list)
-}
-
-// The next line's number. It stays at the last one that a u64 holds.
-fn next(number: u64) -> u64
-    ensures { result ≡ min (number + 1) 18446744073709551615 }
-{
-    if number == u64::MAX {
-        return number;
-    }
-    number + 1
 }
 
 // The end of a line of up to 4,096 bytes: its texts go over the beginnings of out and list.
@@ -256,19 +202,15 @@ pub fn end_line(place: Place, line: &[u8], ended: bool, out: &mut [u8], list: &m
     ensures text { out.new ≡ over (Look.line_text place line.now ended) out.old }
     ensures entry { list.new ≡ over (Repair.line_entry place line.now) list.old }
 {
-    let opens = place.opens;
-    let number = place.number;
     let found = look(line);
-    let clean = found.line;
-    let kept = passes(opens, clean);
+    let kept = passes(place.opens, found.line);
     let dash = is_dash(line);
-    let repaired = put_line(kept, clean, ended, out);
-    let listed = put_entry(number, kept, dash, found, list);
-    let after = next(number);
-    let equals = hex_lines::is_only(clean, b'=');
+    let repaired = put_line(kept, found.line, ended, out);
+    let listed = put_entry(place.number, kept, dash, found, list);
+    let equals = hex_lines::is_only(found.line, b'=');
     Ended {
         place: Place {
-            number: after,
+            number: place.number.saturating_add(1),
             opens: equals,
         },
         repaired,

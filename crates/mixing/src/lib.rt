@@ -4,8 +4,7 @@
 ghost use Rattle.std.specs.Prelude.{◌≡◌, ◌+◌, ◌≤◌, length};
 ghost use Rattle.half.specs.Core as Spec;
 
-use fixed::{clips, ends, fold, fold_narrow, mul, one, shift};
-use slices::copy;
+use fixed::{clips, ends, fold, fold_narrow, mul, shift};
 
 // What is saturated for a sample: the predicted one by the pitch gain, and the innovation's by the code gain.
 fn mixed_sum(pitch_gain: i16, code_gain: i16, a: i16, c: i16) -> i64
@@ -19,16 +18,10 @@ fn mixed_sum(pitch_gain: i16, code_gain: i16, a: i16, c: i16) -> i64
 fn mixed(pitch_gain: i16, code_gain: i16, a: i16, c: i16) -> i16
     ensures { result ≡ Spec.mixed pitch_gain code_gain a c }
 {
-    let predicted = ((a as i32) * (pitch_gain as i32)) >> 1;
-    let innovation = (c as i32) * (code_gain as i32);
+    let predicted = (i32::from(a) * i32::from(pitch_gain)) >> 1;
+    let innovation = i32::from(c) * i32::from(code_gain);
     let v = fold_narrow(fold_narrow(predicted, innovation), 4096) >> 13;
-    if v < -32768 {
-        -32768
-    } else if 32767 < v {
-        32767
-    } else {
-        v as i16
-    }
+    v.clamp(-32768, 32767) as i16
 }
 
 // At how many of the 80 predicted samples saturation changes that sum.
@@ -38,7 +31,7 @@ fn mix_clipped(pitch_gain: i16, code_gain: i16, innovation: &[i16; 80], predicte
     let mut clipped = 0u8;
     for n in 0..80 {
         let v = mixed_sum(pitch_gain, code_gain, predicted[n], innovation[n]);
-        clipped += one(clips(v));
+        clipped += u8::from(clips(v));
     }
     clipped
 }
@@ -49,7 +42,7 @@ pub fn part(exc: &[i16], start: usize) -> [i16; 80]
 {
     let end = start + 80;
     let mut out = [0i16; 80];
-    copy(&mut out[..], &exc[start..end]);
+    out.copy_from_slice(&exc[start..end]);
     out
 }
 

@@ -7,7 +7,6 @@ ghost use Rattle.observation.specs.Frame as Frame;
 ghost use Rattle.observation.specs.Named.{Named};
 
 use half::{Clipped, Core, Half, SubframeTrace};
-use slices::copy;
 
 // What is reported of a subframe.
 #[derive(Clone, Copy)]
@@ -55,15 +54,12 @@ fn figures(bytes: &[u8], t: SubframeTrace) -> [f32; 12]
     requires fact_3 { t.code_class ≤ 5 }
     ensures { result ≡ Frame.figures bytes.now t }
 {
-    let index = t.gain_index;
     let v = t.gains;
-    let innovation = t.innovation;
-    let lag = t.lag;
-    let correction = tables::log_gain(bytes, index);
-    let amplitude = gain_state::amplitude(bytes, v, index);
-    let energy = gain_state::energy(&innovation);
+    let correction = tables::log_gain(bytes, t.gain_index);
+    let amplitude = gain_state::amplitude(bytes, v, t.gain_index);
+    let energy = gain_state::energy(&t.innovation);
     [
-        index as f32,
+        t.gain_index as f32,
         correction,
         v[0],
         v[1],
@@ -73,7 +69,7 @@ fn figures(bytes: &[u8], t: SubframeTrace) -> [f32; 12]
         energy,
         t.code_gain as f32,
         t.pitch_gain as f32,
-        lag.integer as f32,
+        t.lag.integer as f32,
         t.code_class as f32,
     ]
 }
@@ -86,13 +82,12 @@ fn reported(bytes: &[u8], t: SubframeTrace) -> Subframe
     ensures { result ≡ Frame.reported bytes.now t }
 {
     let figures = figures(bytes, t);
-    let lag = t.lag;
     let lpc = t.lpc;
     let innovation = t.innovation;
     Subframe {
         figures,
-        lag: lag.integer,
-        frac: lag.frac,
+        lag: t.lag.integer,
+        frac: t.lag.frac,
         lpc,
         innovation,
         zero_residuals: t.zero_residuals,
@@ -104,8 +99,8 @@ fn put_pair(out: &mut [i16], a: [i16; 80], b: [i16; 80])
     requires { length out.old ≡ 160 }
     ensures { out.new ≡ a ++ b }
 {
-    copy(&mut out[..80], &a[..]);
-    copy(&mut out[80..], &b[..]);
+    out[..80].copy_from_slice(&a);
+    out[80..].copy_from_slice(&b);
 }
 
 // The excitation of the four subframes, one after the other.
@@ -113,16 +108,16 @@ fn put_excitation(x: Half, y: Half, out: &mut [i16])
     requires { length out.old ≡ 320 }
     ensures { out.new ≡ Frame.excitation x y }
 {
-    let a = x.first;
-    let b = x.second;
-    let c = y.first;
-    let d = y.second;
-    let e = a.mixed_excitation;
-    let f = b.mixed_excitation;
-    let g = c.mixed_excitation;
-    let h = d.mixed_excitation;
-    put_pair(&mut out[..160], e, f);
-    put_pair(&mut out[160..], g, h);
+    put_pair(
+        &mut out[..160],
+        x.first.mixed_excitation,
+        x.second.mixed_excitation,
+    );
+    put_pair(
+        &mut out[160..],
+        y.first.mixed_excitation,
+        y.second.mixed_excitation,
+    );
 }
 
 // What is reported of the four subframes of two halves.
@@ -144,22 +139,24 @@ fn subframes(bytes: &[u8], x: Half, y: Half) -> [Subframe; 4]
 fn clipped(x: Half, y: Half) -> [Clipped; 4]
     ensures { result ≡ Frame.clipped x y }
 {
-    let a = x.first_clipped;
-    let b = x.second_clipped;
-    let c = y.first_clipped;
-    let d = y.second_clipped;
-    [a, b, c, d]
+    [
+        x.first_clipped,
+        x.second_clipped,
+        y.first_clipped,
+        y.second_clipped,
+    ]
 }
 
 // The pitch gains that they were mixed with.
 fn pitch_gains(x: Half, y: Half) -> [i16; 4]
     ensures { result ≡ Frame.pitch_gains_of x y }
 {
-    let a = x.first;
-    let b = x.second;
-    let c = y.first;
-    let d = y.second;
-    [a.pitch_gain, b.pitch_gain, c.pitch_gain, d.pitch_gain]
+    [
+        x.first.pitch_gain,
+        x.second.pitch_gain,
+        y.first.pitch_gain,
+        y.second.pitch_gain,
+    ]
 }
 
 // What a frame leaves, and what is reported of it, by its halves.
@@ -169,19 +166,16 @@ pub fn report(bytes: &[u8], h: Both) -> Decoded
     requires fact_3 { Named h.second.half }
     ensures { result ≡ Frame.report bytes.now h }
 {
-    let a = h.first;
-    let b = h.second;
-    let x = a.half;
-    let y = b.half;
+    let x = h.first.half;
+    let y = h.second.half;
     let mut excitation = [0i16; 320];
     put_excitation(x, y, &mut excitation[..]);
     let subframes = subframes(bytes, x, y);
     let clipped = clipped(x, y);
     let pitch_gains = pitch_gains(x, y);
-    let core = y.core;
-    let residuals = b.residuals;
+    let residuals = h.second.residuals;
     Decoded {
-        core,
+        core: y.core,
         residuals,
         excitation,
         subframes,

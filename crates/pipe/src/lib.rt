@@ -1,7 +1,7 @@
 // Standard input and output, and a file's bytes, for programs that take text in and give text out. A call that a signal interrupts is made again.
 #![tactic(auto)]
 
-ghost use Rattle.std.specs.Prelude.{◌≡◌, false, ◌+◌, ◌≤◌, length};
+ghost use Rattle.std.specs.Prelude.{◌≡◌, ◌+◌, ◌≤◌, length, IfOk, IfErr};
 ghost use Rattle.io.specs.Counts.{IsPrefixLen};
 
 use std::env::{Env, FillError};
@@ -15,102 +15,81 @@ const TOO_LONG: i32 = 36;
 
 const NO_TEXT: i32 = 84;
 
-// What a call moved: n bytes, none where the input is at its end; or it failed, and why.
+// A call that failed: how many bytes it had moved before, and why.
 #[derive(Clone, Copy)]
-pub struct Moved {
+pub struct Stopped {
     pub n: usize,
-    pub failed: bool,
     pub why: Error,
 }
 
-// The system's error 0 is none.
-fn passed(n: usize) -> Moved
-    ensures n { result.n ≡ n }
-    ensures failed { result.failed ≡ false }
+// An input's next bytes, at the start of room; none where it is at its end. A read that is interrupted 2^64 - 1 times has failed.
+pub fn read_from<R: Read>(from: &mut R, room: &mut [u8]) -> Result<usize, Error>
+    ensures { IfOk result (λ n. IsPrefixLen n room.new) }
 {
-    Moved {
-        n,
-        failed: false,
-        why: Error::from_raw_os_error(0),
-    }
-}
-
-// An input's next bytes, at the start of room. A read that is interrupted 2^64 - 1 times has failed.
-pub fn read_from<R: Read>(from: &mut R, room: &mut [u8]) -> Moved
-    ensures { IsPrefixLen result.n room.new }
-{
-    let mut tries = u64::MAX;
     let mut why = Error::from(ErrorKind::Interrupted);
-    while tries > 0 {
+    for _ in 0..u64::MAX {
         match from.read(room) {
-            Ok(n) => return passed(n),
-            Err(e) => why = e,
+            Err(e) if e.kind() == ErrorKind::Interrupted => why = e,
+            got => return got,
         }
-        if why.kind() != ErrorKind::Interrupted {
-            return Moved {
-                n: 0,
-                failed: true,
-                why,
-            };
-        }
-        tries -= 1;
     }
-    Moved {
-        n: 0,
-        failed: true,
-        why,
-    }
+    Err(why)
 }
 
 // Standard input's next bytes, at the start of room.
-pub fn read(rt: &HostRuntime, room: &mut [u8]) -> Moved
-    ensures { IsPrefixLen result.n room.new }
+pub fn read(rt: &HostRuntime, room: &mut [u8]) -> Result<usize, Error>
+    ensures { IfOk result (λ n. IsPrefixLen n room.new) }
 {
     let mut input = rt.stdin();
     read_from(&mut input, room)
 }
 
 // Reads until the room is full or the input at its end.
-fn read_whole<R: Read>(from: &mut R, room: &mut [u8]) -> Moved
-    ensures { IsPrefixLen result.n room.new }
+fn read_whole<R: Read>(from: &mut R, room: &mut [u8]) -> Result<usize, Stopped>
+    ensures whole { IfOk result (λ n. IsPrefixLen n room.new) }
+    ensures stopped { IfErr result (λ e. IsPrefixLen e.n room.new) }
 {
     let mut n = 0;
+    // Not counted: it goes on by what a read gives.
     while n < room.len() {
-        let got = read_from(from, &mut room[n..]);
-        if got.failed {
-            return Moved {
-                n,
-                failed: true,
-                why: got.why,
-            };
+        let more = read_from(from, &mut room[n..]).map_err(|why| Stopped { n, why })?;
+        if more == 0 {
+            break;
         }
-        if got.n == 0 {
-            return passed(n);
-        }
-        n += got.n;
+        n += more;
     }
-    passed(n)
+    Ok(n)
 }
 
 // Standard input's bytes, at the start of room, until it is full or the input at its end.
-pub fn read_full(rt: &HostRuntime, room: &mut [u8]) -> Moved
-    ensures { IsPrefixLen result.n room.new }
+pub fn read_full(rt: &HostRuntime, room: &mut [u8]) -> Result<usize, Stopped>
+    ensures whole { IfOk result (λ n. IsPrefixLen n room.new) }
+    ensures stopped { IfErr result (λ e. IsPrefixLen e.n room.new) }
 {
     let mut input = rt.stdin();
     read_whole(&mut input, room)
 }
 
 // A file's first bytes, at the start of room: all of them, or as many as room has. A file that is missing has none.
-pub fn read_file(rt: &HostRuntime, name: &[u8], room: &mut [u8]) -> Moved
-    ensures { IsPrefixLen result.n room.new }
+pub fn read_file(rt: &HostRuntime, name: &[u8], room: &mut [u8]) -> Result<usize, Stopped>
+    ensures whole { IfOk result (λ n. IsPrefixLen n room.new) }
+    ensures stopped { IfErr result (λ e. IsPrefixLen e.n room.new) }
 {
     match open(rt, name) {
         Ok(mut file) => read_whole(&mut file, room),
-        Err(why) => Moved {
-            n: 0,
-            failed: why.kind() != ErrorKind::NotFound,
-            why,
-        },
+        Err(why) if why.kind() == ErrorKind::NotFound => Ok(0),
+        Err(why) => Err(Stopped { n: 0, why }),
+    }
+}
+
+// How many bytes stand in the room that was read into, also where the read failed.
+pub fn moved(read: Result<usize, Stopped>) -> usize
+    ensures whole { IfOk read (λ n. result ≡ n) }
+    ensures stopped { IfErr read (λ e. result ≡ e.n) }
+{
+    match read {
+        Ok(n) => n,
+        Err(stopped) => stopped.n,
     }
 }
 
@@ -123,91 +102,73 @@ pub fn open(rt: &HostRuntime, name: &[u8]) -> Result<File, Error> {
 }
 
 // The argument of a place, at the start of room; 0 is the program's own name.
-pub fn argument(rt: &HostRuntime, place: usize, room: &mut [u8]) -> Moved
-    ensures { IsPrefixLen result.n room.new }
+pub fn argument(rt: &HostRuntime, place: usize, room: &mut [u8]) -> Result<usize, Error>
+    ensures { IfOk result (λ n. IsPrefixLen n room.new) }
 {
-    match rt.arg(place, room) {
-        Ok(n) => passed(n),
-        Err(FillError::NotPresent) => Moved {
-            n: 0,
-            failed: true,
-            why: Error::from_raw_os_error(INVALID),
-        },
-        Err(FillError::TooLong) => Moved {
-            n: 0,
-            failed: true,
-            why: Error::from_raw_os_error(TOO_LONG),
-        },
-    }
+    rt.arg(place, room).map_err(|e| {
+        Error::from_raw_os_error(match e {
+            FillError::NotPresent => INVALID,
+            FillError::TooLong => TOO_LONG,
+        })
+    })
 }
 
-// One write of the text from a place on.
-fn write_some<W: Write>(to: &mut W, text: &[u8], at: usize) -> Moved
+// One write of the text from a place on; one that is interrupted moves nothing.
+fn write_some<W: Write>(to: &mut W, text: &[u8], at: usize) -> Result<usize, Error>
     requires { at ≤ length text.now }
-    ensures { at + result.n ≤ length text.now }
+    ensures { IfOk result (λ n. at + n ≤ length text.now) }
 {
     match to.write(&text[at..]) {
-        Ok(n) => passed(n),
-        Err(why) => Moved {
-            n: 0,
-            failed: why.kind() != ErrorKind::Interrupted,
-            why,
-        },
+        Err(why) if why.kind() == ErrorKind::Interrupted => Ok(0),
+        put => put,
     }
 }
 
 // All of the text to an output; or it failed, as it has where 2^64 - 1 writes moved less than all.
-fn write_to<W: Write>(to: &mut W, text: &[u8]) -> Moved
-    ensures { result.failed ≡ false → result.n ≡ length text.now }
+fn write_to<W: Write>(to: &mut W, text: &[u8]) -> Result<usize, Stopped>
+    ensures all { IfOk result (λ n. n ≡ length text.now) }
+    ensures stopped { IfErr result (λ e. e.n ≤ length text.now) }
 {
-    let mut tries = u64::MAX;
     let mut at = 0;
-    while tries > 0 {
+    for _ in 0..u64::MAX {
         if at == text.len() {
-            return passed(at);
+            return Ok(at);
         }
-        let put = write_some(to, text, at);
-        if put.failed {
-            return Moved {
-                n: at,
-                failed: true,
-                why: put.why,
-            };
-        }
-        at += put.n;
-        tries -= 1;
+        let n = write_some(to, text, at).map_err(|why| Stopped { n: at, why })?;
+        at += n;
     }
-    Moved {
+    Err(Stopped {
         n: at,
-        failed: true,
         why: Error::from(ErrorKind::Interrupted),
-    }
+    })
 }
 
 // The same to standard output.
-pub fn write(rt: &HostRuntime, text: &[u8]) -> Moved
-    ensures { result.failed ≡ false → result.n ≡ length text.now }
+pub fn write(rt: &HostRuntime, text: &[u8]) -> Result<usize, Stopped>
+    ensures all { IfOk result (λ n. n ≡ length text.now) }
+    ensures stopped { IfErr result (λ e. e.n ≤ length text.now) }
 {
     let mut output = rt.stdout();
     write_to(&mut output, text)
 }
 
 // And to standard error.
-pub fn write_error(rt: &HostRuntime, text: &[u8]) -> Moved
-    ensures { result.failed ≡ false → result.n ≡ length text.now }
+pub fn write_error(rt: &HostRuntime, text: &[u8]) -> Result<usize, Stopped>
+    ensures all { IfOk result (λ n. n ≡ length text.now) }
+    ensures stopped { IfErr result (λ e. e.n ≤ length text.now) }
 {
     let mut output = rt.stderr();
     write_to(&mut output, text)
 }
 
-// A line to standard error: what failed, a colon, and why in the system's words.
+// A line to standard error: what failed, a colon, and why in the system's words. Where that cannot be written, nothing is left to tell it.
 pub fn tell(rt: &HostRuntime, what: &[u8], why: Error) {
     let mut text = [0u8; 256];
     let n = words(why, &mut text);
-    write_error(rt, what);
-    write_error(rt, b": ");
-    write_error(rt, &text[..n]);
-    write_error(rt, b"\n");
+    let _ = write_error(rt, what);
+    let _ = write_error(rt, b": ");
+    let _ = write_error(rt, &text[..n]);
+    let _ = write_error(rt, b"\n");
 }
 
 // An error in the system's words, at the start of room: as it is printed, but for its number in brackets behind them.
@@ -217,15 +178,7 @@ fn words(why: Error, room: &mut [u8; 256]) -> usize
     let mut to = Cursor::new(*room);
     let _ = write!(to, "{why}");
     *room = to.into_inner();
-    let mut n = 0;
-    while n < 255 {
-        if room[n] == 0 {
-            return n;
-        }
-        if room[n] == b' ' && room[n + 1] == b'(' {
-            return n;
-        }
-        n += 1;
-    }
-    n
+    room.windows(2)
+        .position(|w| w[0] == 0 || w == b" (".as_slice())
+        .unwrap_or(255)
 }

@@ -4,7 +4,7 @@
 ghost use Rattle.std.specs.Prelude.{◌≡◌, ◌≤◌, ◌<◌, pos};
 ghost use Rattle.pitch.specs.Pitch as Pitch;
 
-// A lag's whole samples, and the thirds of a sample that are left, -1, 0 or 1.
+// A lag's whole samples, and the thirds of a sample that are left, -1, 0 or 1. `Sane` is no invariant of it: the definitions give a lag for any number, also one that no code has.
 #[derive(Clone, Copy)]
 pub struct Lag {
     pub integer: i16,
@@ -44,14 +44,7 @@ fn lowest(prev: i16) -> i16
     requires { Pitch.InRange prev }
     ensures { result ≡ pos (Pitch.lowest prev) }
 {
-    let m = prev - 5;
-    if m < 20 {
-        return 20;
-    }
-    if m + 9 > 143 {
-        return 134;
-    }
-    m
+    (prev - 5).clamp(20, 134)
 }
 
 // The lag of a relative code, which the second subframe has, by the first's lag integer.
@@ -64,20 +57,22 @@ pub fn decode_relative(code: u16, prev: i16) -> Lag
     thirds(m * 3 + code - 2)
 }
 
-// The phase of the filter that interpolates at a lag: the negated fraction, which is made positive with a whole sample more of delay.
-pub fn phase(lag: Lag) -> usize
-    requires { Pitch.Sane lag }
-    ensures { result ≡ Pitch.phase lag }
-{
-    let p = -lag.frac;
-    if p < 0 { (p + 3) as usize } else { p as usize }
-}
+impl Lag {
+    // The phase of the filter that interpolates at a lag: the negated fraction, which is made positive with a whole sample more of delay.
+    pub fn phase(self) -> usize
+        requires { Pitch.Sane self }
+        ensures { result ≡ Pitch.phase self }
+    {
+        let p = -self.frac;
+        if p < 0 { (p + 3) as usize } else { p as usize }
+    }
 
-// The delay that goes with it, in whole samples.
-pub fn delay(lag: Lag) -> usize
-    requires { Pitch.Sane lag }
-    ensures { result ≡ Pitch.delay lag }
-{
-    let d = lag.integer as usize;
-    if -lag.frac < 0 { d + 1 } else { d }
+    // The delay that goes with it, in whole samples.
+    pub fn delay(self) -> usize
+        requires { Pitch.Sane self }
+        ensures { result ≡ Pitch.delay self }
+    {
+        let d = self.integer as usize;
+        if -self.frac < 0 { d + 1 } else { d }
+    }
 }

@@ -14,14 +14,8 @@ pub fn line_end(recording: &[u8], a: usize) -> usize
     ensures end { result ≡ a + Places.line_end (drop a recording.now) }
     ensures within { result ≤ length recording.now }
 {
-    let mut i = a;
-    while i < recording.len() {
-        if recording[i] == b'\n' {
-            return i;
-        }
-        i += 1;
-    }
-    i
+    let rest = &recording[a..];
+    a + rest.iter().position(|b| *b == b'\n').unwrap_or(rest.len())
 }
 
 // The place behind a line that ends at e.
@@ -29,7 +23,7 @@ pub fn behind(recording: &[u8], e: usize) -> usize
     requires { e ≤ length recording.now }
     ensures { result ≡ min (e + 1) (length recording.now) }
 {
-    if e < recording.len() { e + 1 } else { e }
+    (e + 1).min(recording.len())
 }
 
 // Where the frames begin: behind a first `+`.
@@ -37,10 +31,7 @@ pub fn start_of(recording: &[u8]) -> usize
     ensures { result ≡ Places.start_of recording.now }
 {
     let e = line_end(recording, 0);
-    if e != 1 {
-        return 0;
-    }
-    if recording[0] != b'+' {
+    if e != 1 || recording[0] != b'+' {
         return 0;
     }
     behind(recording, e)
@@ -51,13 +42,11 @@ pub fn place_of(recording: &[u8], k: u32) -> usize
     ensures { Places.At recording.now result k }
 {
     let mut a = start_of(recording);
-    let mut n = 0;
-    while n < k {
+    for n in 0..k {
         if recording.len() <= a {
             return a;
         }
         a = behind(recording, line_end(recording, a));
-        n += 1;
     }
     a
 }
@@ -74,10 +63,8 @@ pub fn held(line: &[u8]) -> Line
     ensures { result ≡ Held.kept line.now }
 {
     let mut l = hex_lines::empty();
-    let mut i = 0;
-    while i < line.len() {
-        l = hex_lines::push(l, line[i]);
-        i += 1;
+    for &b in line {
+        l = hex_lines::push(l, b);
     }
     l
 }

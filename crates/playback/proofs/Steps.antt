@@ -29,11 +29,9 @@ use Rattle.places.specs.Frames.{frames}
 use Rattle.places.specs.Places.{line_end, line_at_lem, lines_at, behind_is}
 use Rattle.forward.specs.Forward.{before}
 use Rattle.forward.specs.Gone.{event_long, step_held}
-use Rattle.seek.specs.declared.Sought.{Sought}
 use Rattle.best_save.specs.Best.{best}
-use Rattle.seek.specs.Seek.{not_sought}
-use Rattle.commands.specs.declared.Command.{Command}
-use Rattle.commands.specs.Commands.{command}
+use Rattle.seek.specs.Seek.{Sought, not_sought}
+use Rattle.commands.specs.Commands.{Command, command}
 use Rattle.replies.specs.declared.Cue.{Cue}
 use Rattle.playback.specs.declared.Player.{Player}
 use Rattle.playback.specs.declared.Played.{Played}

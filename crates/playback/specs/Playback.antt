@@ -13,11 +13,9 @@ use Rattle.shelf.specs.Shelf.{number}
 use Rattle.shelf.specs.Run.{Shelf, zeros, after, hold, let_go, holding, letting_go}
 use Rattle.places.specs.Frames.{frames}
 use Rattle.forward.specs.Forward.{before}
-use Rattle.seek.specs.declared.Sought.{Sought}
 use Rattle.best_save.specs.Best.{best}
-use Rattle.seek.specs.Seek.{not_sought, seek}
-use Rattle.commands.specs.declared.Command.{Command}
-use Rattle.commands.specs.Commands.{unknown, command}
+use Rattle.seek.specs.Seek.{Sought, not_sought, seek}
+use Rattle.commands.specs.Commands.{Command, unknown, command}
 use Rattle.replies.specs.Replies.{held_word, let_go_word, unknown_line, answered, frame_mark, save_left, save_said}
 
 -- what a line says; one of more than 40 bytes says nothing that is known

@@ -25,8 +25,7 @@ use Rattle.shelf.specs.Run.{Shelf}
 use Rattle.shelf.specs.Run as Run
 use Rattle.places.specs.Frames.{frames}
 use Rattle.places.specs.Places.{line_end, end_nil, end_newline, end_other, kept_more}
-use Rattle.commands.specs.declared.Command.{Command}
-use Rattle.commands.specs.Commands.{command, argument, starts, unknown}
+use Rattle.commands.specs.Commands.{Command, command, argument, starts, unknown}
 use Rattle.replies.specs.Replies.{answered}
 use Rattle.replies.specs.Promised.{Ahead, silent, ahead, cued}
 use Rattle.playback.specs.Playback.{says, sought, played, left, said, line_left, line_said, transcript, output, program}

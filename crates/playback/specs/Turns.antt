@@ -11,8 +11,7 @@ use Rattle.slots.specs.Slots.{no_slot}
 use Rattle.slot_users.specs.Users.{SLOTS}
 use Rattle.shelf.specs.Run.{Shelf}
 use Rattle.places.specs.Places.{line_end}
-use Rattle.commands.specs.declared.Command.{Command}
-use Rattle.commands.specs.Commands.{command}
+use Rattle.commands.specs.Commands.{Command, command}
 use Rattle.replies.specs.declared.Cue.{Cue}
 use Rattle.playback.specs.declared.Player.{Player}
 use Rattle.playback.specs.declared.Played.{Played}

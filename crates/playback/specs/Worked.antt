@@ -11,7 +11,7 @@ use Rattle.heard.specs.Recording.{tables_text}
 use Rattle.slot_users.specs.Users as Users
 use Rattle.shelf.specs.Shelf as Shelf
 use Rattle.shelf.specs.Run as Run
-use Rattle.best_save.specs.Best.{fits, better, best_of, best}
+use Rattle.best_save.specs.Best.{fits, better, best_of, place, best}
 use Rattle.seek.specs.Seek.{seek_lent, seek}
 use Rattle.commands.specs.Commands.{more, number_from, number, starts, argument, command}
 use Rattle.replies.specs.Replies.{answered}
@@ -30,7 +30,7 @@ module _ (words : List ℤ) (bytes recording : List ℕ) where
 
   -- with nothing saved `seek 0` is `refused 15`, on a last line without its newline too
   none_saved : transcript words bytes recording (115 ∷ 101 ∷ 101 ∷ 107 ∷ 32 ∷ 48 ∷ []) ≡ 114 ∷ 101 ∷ 102 ∷ 117 ∷ 115 ∷ 101 ∷ 100 ∷ 32 ∷ 49 ∷ 53 ∷ 10 ∷ []
-  unfolding transcript texts lines pieces of_pieces line_said says said command argument starts number number_from more answered figure decimal decimal_in Run.zeros seek seek_lent Shelf.judged Shelf.lent best best_of better fits
+  unfolding transcript texts lines pieces of_pieces line_said says said command argument starts number number_from more answered figure decimal decimal_in Run.zeros seek seek_lent Shelf.judged Shelf.lent best place best_of better fits
   none_saved = refl
 
 -- with no table file that is all that is told

@@ -7,6 +7,8 @@ ghost use Rattle.stream.specs.Machine.{fed_all};
 ghost use Rattle.table_file.specs.File as File;
 ghost use Rattle.hex_lines.specs.Held as Held;
 ghost use Rattle.heard.specs.Start as Start;
+ghost use Rattle.commands.specs.Commands as Commands;
+ghost use Rattle.seek.specs.Seek as Seek;
 ghost use Rattle.replies.specs.Replies as Replies;
 ghost use Rattle.replies.specs.Promised as Promised;
 ghost use Rattle.playback.specs.Playback as Playback;
@@ -14,10 +16,10 @@ ghost use Rattle.playback.specs.Turns as Turns;
 
 use commands::Command;
 use hex_lines::Line;
+use refusal::Refusal;
 use replies::{Cue, Obeyed};
-use seek::Sought;
-use slot_users::SLOTS;
-use slots::{Records, Slot};
+use slots::Slot;
+use state::State;
 
 // Where the player stands: the records of the shelf, the line that is coming in, what is left to play, and whether all is told.
 #[derive(Clone, Copy)]
@@ -96,26 +98,16 @@ fn found(
     images: &[u8],
     recording: &[u8],
     k: u32,
-) -> Sought
-    ensures { result ≡ Playback.found words.now bytes.now recording.now (Promised.shelf slots images.now) k }
+) -> Result<State, Refusal>
+    ensures { Seek.answer result ≡ Playback.found words.now bytes.now recording.now (Promised.shelf slots images.now) k }
 {
-    let r = Records {
-        count: SLOTS,
-        slots,
-    };
-    if best_save::best(r, k) < SLOTS {
-        return seek::seek_by_value(words, bytes, slots, images, recording, k);
+    if let Some(_) = best_save::best(slots, k) {
+        return seek::seek(words, bytes, &slots, images, recording, k);
     }
     if places::has_frame(recording, k) {
-        return Sought {
-            number: 0,
-            state: forward::before(words, bytes, recording, k),
-        };
+        return Ok(forward::before(words, bytes, recording, k));
     }
-    Sought {
-        number: 15,
-        state: state::all_zero(),
-    }
+    Err(Refusal::NoFrame)
 }
 
 // `save K`
@@ -147,26 +139,22 @@ fn obey(
     room: &mut [u8],
 ) -> Obeyed
     requires { 64 ≤ length room.old }
-    ensures { Turns.Obeys words.now bytes.now recording.now (Promised.shelf slots images.old) c room.old result images.new room.new }
+    ensures { Turns.Obeys words.now bytes.now recording.now (Promised.shelf slots images.old) (Commands.told c) room.old result images.new room.new }
 {
-    if c.kind == commands::SAVE {
-        return save(words, bytes, slots, images, recording, c.k, room);
+    match c {
+        Command::Save(k) => save(words, bytes, slots, images, recording, k, room),
+        Command::Hold(k) => replies::hold(slots, images, k, room),
+        Command::LetGo(k) => replies::let_go(slots, images, k, room),
+        Command::Seek(k) => {
+            let s = seek::seek(words, bytes, &slots, images, recording, k);
+            replies::tell(s, slots, k, room)
+        }
+        Command::Play(k, n) => {
+            let s = seek::seek(words, bytes, &slots, images, recording, k);
+            sought::begin_play(s, slots, recording, k, n, room)
+        }
+        Command::Unknown => replies::wonder(slots, room),
     }
-    if c.kind == commands::HOLD {
-        return replies::hold(slots, images, c.k, room);
-    }
-    if c.kind == commands::LET_GO {
-        return replies::let_go(slots, images, c.k, room);
-    }
-    if c.kind == commands::SEEK {
-        let s = seek::seek_by_value(words, bytes, slots, images, recording, c.k);
-        return replies::tell(s, slots, c.k, room);
-    }
-    if c.kind == commands::PLAY {
-        let s = seek::seek_by_value(words, bytes, slots, images, recording, c.k);
-        return sought::begin_play(s, slots, recording, c.k, c.n, room);
-    }
-    replies::wonder(slots, room)
 }
 
 // The end of a line, with so many bytes used.
@@ -211,10 +199,8 @@ fn push_all(line: Line, part: &[u8]) -> Line
     ensures { result ≡ fed_all Held.push line part.now }
 {
     let mut l = line;
-    let mut i = 0;
-    while i < part.len() {
-        l = hex_lines::push(l, part[i]);
-        i += 1;
+    for b in part {
+        l = hex_lines::push(l, *b);
     }
     l
 }

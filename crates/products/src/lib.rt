@@ -8,22 +8,14 @@ ghost use Rattle.products.specs.Runs as Runs;
 
 use fixed::{acc, fold, mul};
 
-// A tap's size.
-fn size(tap: i16) -> i32
-    ensures { result ≡ pos (nat_abs tap) }
-{
-    let t = tap as i32;
-    if t < 0 { -t } else { t }
-}
-
 // Whether the taps' sizes add up to at most 65,535: then a sum of products by them is one of 32 bits, whatever the signal.
 pub fn small(taps: &[i16]) -> bool
     requires { length taps.now < 65536 }
     ensures { result ≡ Runs.small taps.now }
 {
-    let mut sum = 0i32;
-    for k in 0..taps.len() {
-        sum += size(taps[k]);
+    let mut sum = 0u32;
+    for tap in taps {
+        sum += u32::from(tap.unsigned_abs());
     }
     sum <= 65535
 }
@@ -34,6 +26,7 @@ fn plain(taps: &[i16], signal: &[i16]) -> i32
     ensures { result ≡ Runs.products taps.now signal.now (length signal.now) }
 {
     let mut sum = 0i32;
+    // By index: two slices, place by place, as the definition sums them.
     for k in 0..signal.len() {
         sum += (taps[k] as i32) * (signal[k] as i32);
     }
@@ -46,6 +39,7 @@ fn each(sum: i64, taps: &[i16], signal: &[i16]) -> i64
     ensures { result ≡ total Fixed.fold (Fixed.acc sum) (λ (k : ℕ). Fixed.mul (get_or signal.now k (pos 0)) (get_or taps.now k (pos 0))) (length signal.now) }
 {
     let mut value = acc(sum);
+    // By index: two slices, place by place, as the definition sums them.
     for k in 0..signal.len() {
         value = fold(value, mul(signal[k], taps[k]));
     }

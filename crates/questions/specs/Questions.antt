@@ -1,7 +1,7 @@
 -- Numbers out of a line of text: decimal digits, with a minus in front or none; a byte that sorts before the digits ends a number.
 use Rattle.std.specs.Prelude.{ℕ, suc, ◌+◌, ◌*◌, ◌%◌, ◌<◌, ◌≤◌, ◌≡◌, refl, List, [], ◌∷◌, Bool, true, false, cond, eqb, ltb, leb, ℤ, pos, negsuc, ◌-ℤ◌, length, get_or, set, drop, replicate, Float}
 use Rattle.std.proofs.Math.Numerals.{add-one}
-use Rattle.std.proofs.Common.{drop_of_length-le, drop-cons}
+use Rattle.std.proofs.Common.{arith, drop_of_length-le, drop-cons}
 use Rattle.std.specs.Int.Signed.{mag}
 use Rattle.std.specs.Float.{binary32}
 use Rattle.std.specs.Float.Ieee.{of_bits}
@@ -81,16 +81,18 @@ example_samples : (sample_at 2 0 ≡ pos 4) × (sample_at 2 1 ≡ pos 2146) × (
 unfolding sample_at sample next shift wrap signedIn residue
 example_samples = (refl, refl, refl)
 
--- ---- a byte more, the line's end, the text's end
-module _ (r : Reading) (s : List ℕ) (i : ℕ) where
-  pub line_more : i < length s → eqb (get_or s i 0) 10 ≡ false → line_from r (drop i s) i ≡ line_from (step r (get_or s i 0)) (drop (i + 1) s) (i + 1)
+-- ---- a byte more, the line's end, the text's end: place i of a text that begins at place n of the whole
+module _ (r : Reading) (s : List ℕ) (n i : ℕ) where
+  pub line_more : i < length s → eqb (get_or s i 0) 10 ≡ false → line_from r (drop i s) (n + i) ≡ line_from (step r (get_or s i 0)) (drop (i + 1) s) (n + (i + 1))
   unfolding line_from
-  line_more h e = rw (drop-cons s i 0 h, e, add-one i)
+  line_more h e =
+      let q : n + (i + 1) ≡ n + i + 1 = omega arith in
+      rw (q, drop-cons s i 0 h, e, add-one i)
 
-  pub line_ended_lem : i < length s → eqb (get_or s i 0) 10 ≡ true → line_from r (drop i s) i ≡ asked (step r (get_or s i 0)) (i + 1)
+  pub line_ended_lem : i < length s → eqb (get_or s i 0) 10 ≡ true → line_from r (drop i s) (n + i) ≡ asked (step r (get_or s i 0)) (n + i + 1)
   unfolding line_from
   line_ended_lem h e = rw (drop-cons s i 0 h, e)
 
-  pub line_none : length s ≤ i → line_from r (drop i s) i ≡ asked r i
+  pub line_none : length s ≤ i → line_from r (drop i s) (n + i) ≡ asked r (n + i)
   unfolding line_from
   line_none h = rw (drop_of_length-le s h)

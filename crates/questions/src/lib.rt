@@ -5,6 +5,7 @@ ghost use Rattle.std.specs.Prelude.{◌≡◌, ◌<◌, ◌≤◌, length};
 ghost use Rattle.questions.specs.Questions as Questions;
 
 // The numbers of a line, 128 at most, and where the next line begins.
+// The array with a count beside it stays: there is no heap here, and a line may have any number up to 128.
 #[derive(Clone, Copy)]
 pub struct Question {
     pub count: usize,
@@ -22,52 +23,51 @@ pub struct Reading {
 }
 
 // A number of at most 63 bits by its digits; one that is wider is the smallest or the largest.
+#[tactic(auto, unfolding(crate::specs::Questions::signed))]
 fn signed(digits: u64, negative: bool) -> i64
     ensures { result ≡ Questions.signed digits negative }
 {
-    if digits < 9223372036854775808 {
-        let n = digits as i64;
-        return if negative { 0 - n } else { n };
+    match i64::try_from(digits) {
+        Ok(n) if negative => -n,
+        Ok(n) => n,
+        Err(_) if negative => i64::MIN,
+        Err(_) => i64::MAX,
     }
-    if negative { i64::MIN } else { i64::MAX }
-}
-
-fn wide(x: u8) -> u64
-    ensures { result ≡ x }
-{
-    x as u64
 }
 
 // The number that was being read is complete; behind the 128th there is no place.
+#[tactic(auto, unfolding(crate::specs::Questions::ended))]
 fn ended(r: Reading) -> Reading
     ensures { result ≡ Questions.ended r }
 {
-    let mut s = r;
-    s.digits = 0;
-    s.negative = false;
-    let count = r.count;
-    if count < 128 {
-        s.numbers[count] = signed(r.digits, r.negative);
-        s.count = count + 1;
-        return s;
+    let mut s = Reading {
+        digits: 0,
+        negative: false,
+        ..r
+    };
+    if r.count < 128 {
+        s.numbers[r.count] = signed(r.digits, r.negative);
+        s.count += 1;
     }
     s
 }
 
 // A byte more: one from the digit 0 on goes on with the number, a minus is kept, anything else ends it.
+#[tactic(auto, unfolding(crate::specs::Questions::step))]
 fn step(r: Reading, b: u8) -> Reading
     ensures { result ≡ Questions.step r b }
 {
-    let mut s = r;
-    if b'0' <= b {
-        s.digits = r.digits % 1000000000000000000 * 10 + wide(b) % 16;
-        return s;
+    match b {
+        b'0'.. => Reading {
+            digits: r.digits % 1000000000000000000 * 10 + u64::from(b) % 16,
+            ..r
+        },
+        b'-' => Reading {
+            negative: true,
+            ..r
+        },
+        _ => ended(r),
     }
-    if b == b'-' {
-        s.negative = true;
-        return s;
-    }
-    ended(r)
 }
 
 fn asked(r: Reading, next: usize) -> Question
@@ -93,14 +93,12 @@ pub fn line(s: &[u8], from: usize) -> Question
         digits: 0,
         negative: false,
     };
-    let mut i = from;
-    while i < s.len() {
-        let b = s[i];
-        r = step(r, b);
-        i += 1;
-        if b == b'\n' {
-            return asked(r, i);
+    let rest = &s[from..];
+    for (i, b) in rest.iter().enumerate() {
+        r = step(r, *b);
+        if *b == b'\n' {
+            return asked(r, from + i + 1);
         }
     }
-    asked(r, i)
+    asked(r, s.len())
 }

@@ -1,5 +1,6 @@
 -- The walk along the order, digit by digit, and what the two calls answer.
-use mathlib.Core.Path.{◌≡◌, refl, ◌∙◌}
+use Rattle.std.specs.Prelude.{Result, ⊤}
+use mathlib.Core.Path.{◌≡◌, refl, sym, ap, ◌∙◌}
 use mathlib.Core.Bool.{cond}
 use mathlib.Core.List.{List}
 use Prim.Native.Nat.{ℕ, ◌+◌, ◌%◌, ◌<◌, ◌≤◌}
@@ -9,8 +10,11 @@ use lib.Dec.{eqb}
 use lib.ListN.{length, get_or, drop, set, replicate, length-map, drop_of_length-le, get_or-map}
 use lib.Seq.{drop-cons}
 use Rattle.bits.specs.Bits.{inverted, scatter}
-use Rattle.receiver.specs.Receiver.{line_of, order, values, bits_of, frame_of, answer, write_number, write, written, read_number, read, taken}
+use Rattle.receiver.specs.Receiver.{line_of, order, values, bits_of, frame_of, write_number, write, written, read_number, read, taken}
 use Rattle.receiver.specs.Order.{order_count}
+use Rattle.receiver.specs.Calls.{write_told, read_told}
+use Rattle.refusal.specs.declared.Refusal.{Refusal}
+use Rattle.refusal.specs.Numbers.{told}
 
 -- j digits are put at their places; with the others the bits are those of the line
 pub record Putting (line out : List ℕ) (j : ℕ) : Type 0 where
@@ -37,10 +41,10 @@ putting_end {line} {out} {j} p h = rw (drop_of_length-le order {i = j} (omega (a
 
 -- ---- the calls, by their number
 
-pub write_settled : (p out : List ℕ) (n : ℕ) → write_number p ≡ n → (answer n ≡ write p) × (n ≡ write_number p) × (cond (eqb n 0) (line_of p) out ≡ written p out)
+pub write_settled : (p out : List ℕ) (r : Result ⊤ Refusal) → write p ≡ r → (r ≡ write p) × (told r ≡ write_number p) × (cond (eqb (told r) 0) (line_of p) out ≡ written p out)
 unfolding written
-write_settled p out n e = rw e (refl, refl, refl)
+write_settled p out r e = let n = sym (ap told e) ∙ write_told p in (sym e, n, ap (λ (k : ℕ). cond (eqb k 0) (line_of p) out) n)
 
-pub read_settled : (l out : List ℕ) (n : ℕ) → read_number l ≡ n → (answer n ≡ read l) × (n ≡ read_number l) × (cond (eqb n 0) (frame_of l) out ≡ taken l out)
+pub read_settled : (l out : List ℕ) (r : Result ⊤ Refusal) → read l ≡ r → (r ≡ read l) × (told r ≡ read_number l) × (cond (eqb (told r) 0) (frame_of l) out ≡ taken l out)
 unfolding taken
-read_settled l out n e = rw e (refl, refl, refl)
+read_settled l out r e = let n = sym (ap told e) ∙ read_told l in (sym e, n, ap (λ (k : ℕ). cond (eqb k 0) (frame_of l) out) n)

@@ -1,15 +1,13 @@
 -- bits.rs's `unpack` of 158 bits in receiver order, with mod.rs's two changes to what it gives: these are the fields of the frame that is read.
 use Rattle.std.specs.Prelude.{◌≡◌, refl, List, [], ◌∷◌, ◌++◌, map, ℕ, zero, suc, ◌+◌, ◌*◌, get_or, take, drop}
-use Rattle.std.proofs.Common.{ap, ◌∙◌}
+use Rattle.std.proofs.Common.{Ok, ap, ◌∙◌}
 use Rattle.std.specs.Int.Bits.{bit_xor}
 use Rattle.sequence.specs.Table.{table}
 use Rattle.bits.specs.declared.HalfParams.{HalfParams}
 use Rattle.bits.specs.declared.FrameParams.{FrameParams}
-use Rattle.bits.specs.declared.Unpacked.TheVariants.{Fields}
 use Rattle.bits.specs.Bits as Bits
 use Rattle.bits.specs.Calls.{unpack_sized}
-use Rattle.receiver.specs.declared.Answer.TheVariants.{Accepted}
-use Rattle.receiver.specs.Receiver.{order, values, frame_of, read_number, read, taken}
+use Rattle.receiver.specs.Receiver.{accepted, order, values, frame_of, read_number, read, taken}
 use Rattle.receiver.specs.RoundTrips.{read_accepted, digits_back, frame_length, frame_padding}
 use Rattle.bits.specs.Bytes.{bits_mask}
 
@@ -71,9 +69,9 @@ fields_read : (p : List ℕ) → Bits.fields_of p ≡ received_fields (map (Bits
 unfolding Bits.fields_of Bits.gather Bits.groups received_fields order table
 fields_read p = refl
 
-pub fields_of_line : (l out : List ℕ) → read l ≡ Accepted → Bits.unpack (taken l out) ≡ Fields (received_fields (values l))
+pub fields_of_line : (l out : List ℕ) → read l ≡ accepted → Bits.unpack (taken l out) ≡ Ok (received_fields (values l))
 unfolding read_number taken
 fields_of_line l out r =
     let e = read_accepted l r in
     let m = bits_mask (frame_of l) (frame_padding l e).0 (frame_padding l e).1 in
-    simp e (unpack_sized (frame_of l) (frame_length l e) ∙ simp m (ap Fields (fields_read (frame_of l) ∙ ap received_fields (digits_back l e))))
+    simp e (unpack_sized (frame_of l) (frame_length l e) ∙ simp m (ap Ok (fields_read (frame_of l) ∙ ap received_fields (digits_back l e))))

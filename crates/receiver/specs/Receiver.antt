@@ -1,11 +1,12 @@
 -- A frame as the line of 162 digits that one receiver dumps, and back: post_fec.rs's `receiver_bits`, and the four frame bits that it drops.
-use Rattle.std.specs.Prelude.{◌≡◌, refl, Bool, cond, ◌&&◌, List, [], ◌∷◌, ◌++◌, map, ℕ, zero, suc, ◌+◌, ◌%◌, leb, eqb, length, get_or, take, drop, set, replicate}
+use Rattle.std.specs.Prelude.{◌≡◌, refl, Bool, cond, ◌&&◌, List, [], ◌∷◌, ◌++◌, map, ℕ, ◌+◌, ◌%◌, leb, eqb, length, get_or, take, drop, set, replicate, Result, ⊤}
+use Rattle.std.proofs.Common.{Ok, Err}
 use Rattle.std.specs.Int.Bits.{bit_and}
 use Rattle.sequence.specs.All.{all}
 use Rattle.sequence.specs.Table.{table}
 use Rattle.bits.specs.Bits.{one_if, bit_at, scatter, byte_of}
-use Rattle.receiver.specs.declared.Answer.{Answer}
-use Rattle.receiver.specs.declared.Answer.TheVariants.{Accepted, Refused}
+use Rattle.refusal.specs.declared.Refusal.{Refusal}
+use Rattle.refusal.specs.declared.Refusal.TheVariants.{FrameLength, Padding, NoReceiverLine}
 
 -- ---- the digits of a frame
 
@@ -64,22 +65,17 @@ frame_of line = table (byte_of (bits_of line)) 20
 
 -- ---- the calls
 
--- document 01's number of an answer, 0 for acceptance
-abbrev pub number : Answer → ℕ
-number Accepted = 0
-number (Refused n) = n
-
--- the answer that has this number
-abbrev pub answer : ℕ → Answer
-answer zero = Accepted
-answer (suc n) = Refused (suc n)
+-- the answer to what is not refused
+abbrev pub accepted : Result ⊤ Refusal
+accepted = Ok tt
 
 -- writing: 3 where the payload is not 20 bytes, 6 where one of its last two bits is set
 unfoldable pub write_number : List ℕ → ℕ
 write_number p = cond (eqb (length p) 20) (cond (eqb (bit_and (get_or p 19 0) 192) 0) 0 6) 3
 
-abbrev pub write : List ℕ → Answer
-write p = answer (write_number p)
+-- the answer that has this number
+unfoldable pub write : List ℕ → Result ⊤ Refusal
+write p = cond (eqb (length p) 20) (cond (eqb (bit_and (get_or p 19 0) 192) 0) accepted (Err Padding)) (Err FrameLength)
 
 -- the buffer: the line, or where the answer is a refusal what it held
 unfoldable pub written : List ℕ → List ℕ → List ℕ
@@ -89,8 +85,9 @@ written p out = cond (eqb (write_number p) 0) (line_of p) out
 unfoldable pub read_number : List ℕ → ℕ
 read_number line = cond (is_line line) 0 10
 
-abbrev pub read : List ℕ → Answer
-read line = answer (read_number line)
+-- the answer that has this number
+unfoldable pub read : List ℕ → Result ⊤ Refusal
+read line = cond (is_line line) accepted (Err NoReceiverLine)
 
 -- the buffer: the frame, or where the answer is a refusal what it held
 unfoldable pub taken : List ℕ → List ℕ → List ℕ

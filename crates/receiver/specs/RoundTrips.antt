@@ -1,7 +1,7 @@
 -- What is written is read back, and what is read is written back.
 use Rattle.std.specs.Prelude.{◌≡◌, Bool, true, false, cond, ◌&&◌, leb, ltb, eqb, length, take, drop, replicate}
 use Rattle.std.proofs.Math.Path.{refl, ap}
-use Rattle.std.proofs.Common.{sym, ◌∙◌, arith, eqb-true, le-leb, leb-true, ltb-true, lit<, lit≤}
+use Rattle.std.proofs.Common.{Err, sym, ◌∙◌, arith, eqb-true, le-leb, leb-true, ltb-true, lit<, lit≤}
 use mathlib.Core.List.{List, map, map-map, map-id}
 use Prim.Native.Nat.{ℕ, ◌+◌, ◌%◌, ◌<◌}
 use Rattle.std.proofs.Math.Nat.{mod-lt}
@@ -16,20 +16,20 @@ use Rattle.bits.specs.Digits.{Digits}
 use Rattle.bits.specs.Widths.{read_bit_lt}
 use Rattle.bits.specs.Scattered.{scatter_digits}
 use Rattle.bits.specs.RoundTrips.{map_same, zeros_digits}
-use Rattle.receiver.specs.declared.Answer.TheVariants.{Accepted}
-use Rattle.receiver.specs.Receiver.{receiver_bits, digits, line_of, up_to, is_line, order, values, bits_of, frame_of, answer, write_number, write, written, read_number, read, taken}
+use Rattle.refusal.specs.declared.Refusal.TheVariants.{FrameLength, Padding, NoReceiverLine}
+use Rattle.receiver.specs.Receiver.{accepted, receiver_bits, digits, line_of, up_to, is_line, order, values, bits_of, frame_of, write_number, write, written, read_number, read, taken}
 use Rattle.receiver.specs.Order.{position, position_order, order_count, order_below, digits_read, line_walked, table_map, bits_there}
 use Rattle.receiver.specs.Lines.{line_length, line_digit, line_reserved}
 
 -- ---- an accepted frame, written and read
 
-pub write_accepted : (p : List ℕ) → write p ≡ Accepted → (length p ≡ 20) × (bit_and (get_or p 19 0) 192 ≡ 0)
-unfolding write_number
+pub write_accepted : (p : List ℕ) → write p ≡ accepted → (length p ≡ 20) × (bit_and (get_or p 19 0) 192 ≡ 0)
+unfolding write
 write_accepted p e =
     let t = by (eqb (length p) 20) (eqb (bit_and (get_or p 19 0) 192) 0) e in
     (eqb-true (length p) 20 t.0, eqb-true (bit_and (get_or p 19 0) 192) 0 t.1)
   where
-    by : (s t : Bool) → answer (cond s (cond t 0 6) 3) ≡ Accepted → (s ≡ true) × (t ≡ true)
+    by : (s t : Bool) → cond s (cond t accepted (Err Padding)) (Err FrameLength) ≡ accepted → (s ≡ true) × (t ≡ true)
     by true true e = (refl, refl)
     by true false e = (refl, cc)
     by false t e = (cc, cc)
@@ -37,6 +37,10 @@ write_accepted p e =
 pub write_accepts : (p : List ℕ) → length p ≡ 20 → bit_and (get_or p 19 0) 192 ≡ 0 → write_number p ≡ 0
 unfolding write_number
 write_accepts p l m = simp (l, m)
+
+write_answers : (p : List ℕ) → length p ≡ 20 → bit_and (get_or p 19 0) 192 ≡ 0 → write p ≡ accepted
+unfolding write
+write_answers p l m = simp (l, m)
 
 module _ (p : List ℕ) (z : bit_at p 158 ≡ 0) where
   values_line : values (line_of p) ≡ map (read_bit p) order
@@ -75,8 +79,8 @@ module _ (p : List ℕ) (z : bit_at p 158 ≡ 0) where
       bytes_of_bits (scatter (replicate 160 0) order (values (line_of p))) p 20 l h (λ i s. rw values_line (bits_there (bit_at p) (bit_lt p) y i s))
 
 -- p is a list of bytes, as a payload is
-pub read_written : (p line out : List ℕ) → ((k : ℕ) → get_or p k 0 < 256) → write p ≡ Accepted → (read (written p line) ≡ Accepted) × (taken (written p line) out ≡ p)
-unfolding written read_number taken
+pub read_written : (p line out : List ℕ) → ((k : ℕ) → get_or p k 0 < 256) → write p ≡ accepted → (read (written p line) ≡ accepted) × (taken (written p line) out ≡ p)
+unfolding written read read_number taken
 read_written p line out h e =
     let a = write_accepted p e in
     let n : write_number p ≡ 0 = write_accepts p a.0 a.1 in
@@ -86,11 +90,11 @@ read_written p line out h e =
 
 -- ---- an accepted line, read and written
 
-pub read_accepted : (l : List ℕ) → read l ≡ Accepted → is_line l ≡ true
-unfolding read_number
+pub read_accepted : (l : List ℕ) → read l ≡ accepted → is_line l ≡ true
+unfolding read
 read_accepted l e = by (is_line l) e
   where
-    by : (b : Bool) → answer (cond b 0 10) ≡ Accepted → b ≡ true
+    by : (b : Bool) → cond b accepted (Err NoReceiverLine) ≡ accepted → b ≡ true
     by true e = refl
     by false e = cc
 
@@ -154,6 +158,9 @@ module _ (l : List ℕ) (e : is_line l ≡ true) where
   pub frame_accepted : write_number (frame_of l) ≡ 0
   frame_accepted = write_accepts (frame_of l) frame_length (bits_mask (frame_of l) frame_padding.0 frame_padding.1)
 
+  frame_answered : write (frame_of l) ≡ accepted
+  frame_answered = write_answers (frame_of l) frame_length (bits_mask (frame_of l) frame_padding.0 frame_padding.1)
+
   line_back : line_of (frame_of l) ≡ l
   unfolding line_of
   line_back =
@@ -162,9 +169,9 @@ module _ (l : List ℕ) (e : is_line l ≡ true) where
       ∙ map_same (λ c. 48 + c % 2) (λ c. c) l (λ k h. omega (arith, line_digit l e k (omega (arith, line_length l e))))
       ∙ map-id l
 
-pub written_read : (l out line : List ℕ) → read l ≡ Accepted → (write (taken l out) ≡ Accepted) × (written (taken l out) line ≡ l)
+pub written_read : (l out line : List ℕ) → read l ≡ accepted → (write (taken l out) ≡ accepted) × (written (taken l out) line ≡ l)
 unfolding written read_number taken
 written_read l out line r =
     let e = read_accepted l r in
     let n = frame_accepted l e in
-    (simp (e, n), simp (e, n) (line_back l e))
+    (simp e (frame_answered l e), simp (e, n) (line_back l e))

@@ -1,11 +1,15 @@
 // A frame as the line of 162 digits that one receiver dumps, and back: post_fec.rs's `receiver_bits`, and the four frame bits that it drops.
 #![tactic(auto)]
 
-ghost use Rattle.std.specs.Prelude.{◌≡◌, true, ◌+◌, length, get_or};
+ghost use Rattle.std.specs.Prelude.{◌≡◌, true, ◌+◌, ◌<◌, length, get_or};
 ghost use Rattle.sequence.specs.All.{all};
 ghost use Rattle.sequence.specs.Table.{table};
 ghost use Rattle.bits.specs.Bits.{read_bit};
+ghost use Rattle.refusal.specs.Numbers.{told};
 ghost use Rattle.receiver.specs.Receiver as Receiver;
+
+use refusal::Refusal;
+use std::array;
 
 // The frame bit of each digit: what `digits_of` and `bits_of` walk.
 const ORDER: [u8; 162] = [
@@ -24,78 +28,57 @@ const ORDER: [u8; 162] = [
     74, 75, 76, 77,
 ];
 
-// What stands in the lent buffer, or why nothing was put there.
-#[derive(Drop)]
-pub enum Answer {
-    Accepted,
-    Refused(u8),
-}
-
-fn wide(x: u8) -> usize
-    ensures { result ≡ x }
+// The frame bit of digit j. The table is lent, since a constant that is read in a loop is made anew at each turn.
+fn place(order: &[u8], j: usize) -> usize
+    requires table { order.now ≡ Receiver.order }
+    requires below { j < 162 }
+    ensures value { result ≡ get_or Receiver.order j 0 }
+    ensures bit { result < 159 }
 {
-    x as usize
+    usize::from(order[j])
 }
 
 // The line of 20 bytes.
-fn digits_of(payload: &[u8]) -> [u8; 162]
-    requires { length payload.now ≡ 20 }
+fn digits_of(order: &[u8], payload: &[u8]) -> [u8; 162]
+    requires table { order.now ≡ Receiver.order }
+    requires bytes { length payload.now ≡ 20 }
     ensures { result ≡ table (λ j. 48 + read_bit payload.now (get_or Receiver.order j 0)) 162 }
 {
-    let order = ORDER;
-    let mut line = [b'0'; 162];
-    let mut j: usize = 0;
-    while j < 162 {
-        line[j] = 48 + bits::bit(payload, wide(order[j]));
-        j += 1;
-    }
-    line
+    array::from_fn(|j| b'0' + bits::bit(payload, place(order, j)))
 }
 
 // Writes the line of a frame, once it is not refused.
-pub fn write(payload: &[u8], line: &mut [u8; 162]) -> Answer
-    ensures { (result ≡ Receiver.write payload.now) × (Receiver.number result ≡ Receiver.write_number payload.now) × (line.new ≡ Receiver.written payload.now line.old) }
+pub fn write(payload: &[u8], line: &mut [u8; 162]) -> Result<(), Refusal>
+    ensures answer { result ≡ Receiver.write payload.now }
+    ensures number { told result ≡ Receiver.write_number payload.now }
+    ensures line { line.new ≡ Receiver.written payload.now line.old }
 {
     if payload.len() != 20 {
-        return Answer::Refused(3);
+        return Err(Refusal::FrameLength);
     }
     if payload[19] & 0xc0 != 0 {
-        return Answer::Refused(6);
+        return Err(Refusal::Padding);
     }
-    *line = digits_of(payload);
-    Answer::Accepted
+    *line = digits_of(&ORDER, payload);
+    Ok(())
 }
 
 fn up_to(top: u8, c: u8) -> bool
     ensures { result ≡ Receiver.up_to top c }
 {
-    48 <= c && c <= top
+    b'0' <= c && c <= top
 }
 
 fn all_up_to(top: u8, text: &[u8]) -> bool
     ensures { result ≡ all (Receiver.up_to top) text.now }
 {
-    let mut i = 0;
-    while i < text.len() {
-        if up_to(top, text[i]) {
-            i += 1;
-        } else {
-            return false;
-        }
-    }
-    true
+    text.iter().all(|&c| up_to(top, c))
 }
 
 fn is_line(line: &[u8]) -> bool
     ensures { result ≡ Receiver.is_line line.now }
 {
-    if line.len() != 162 {
-        return false;
-    }
-    if all_up_to(b'1', line) {
-        return all_up_to(b'0', &line[80..84]);
-    }
-    false
+    line.len() == 162 && all_up_to(b'1', line) && all_up_to(b'0', &line[80..84])
 }
 
 // The frame's bits.
@@ -105,25 +88,25 @@ fn bits_of(line: &[u8]) -> [u8; 160]
 {
     let order = ORDER;
     let mut out = [0u8; 160];
-    let mut j: usize = 0;
-    while j < 162 {
-        let i = wide(order[j]);
+    for j in 0..162 {
+        let i = place(&order, j);
         out[i] = (line[j] % 2 + bits::inverted(i)) % 2;
-        j += 1;
     }
     out
 }
 
 // Writes the frame of a line, once it is not refused.
-pub fn read(line: &[u8], payload: &mut [u8; 20]) -> Answer
-    ensures { (result ≡ Receiver.read line.now) × (Receiver.number result ≡ Receiver.read_number line.now) × (payload.new ≡ Receiver.taken line.now payload.old) }
+pub fn read(line: &[u8], payload: &mut [u8; 20]) -> Result<(), Refusal>
+    ensures answer { result ≡ Receiver.read line.now }
+    ensures number { told result ≡ Receiver.read_number line.now }
+    ensures payload { payload.new ≡ Receiver.taken line.now payload.old }
 {
     if is_line(line) {
         let frame_bits = bits_of(line);
         let mut frame = [0u8; 20];
         bits::put_bytes(&frame_bits, &mut frame);
         *payload = frame;
-        return Answer::Accepted;
+        return Ok(());
     }
-    Answer::Refused(10)
+    Err(Refusal::NoReceiverLine)
 }

@@ -19,7 +19,7 @@ pub fn exp(v: i64) -> i32
     if a == 0 {
         return 0;
     }
-    u64::leading_zeros(magnitude(a)) as i32 - 33
+    magnitude(a).leading_zeros() as i32 - 33
 }
 
 // One step of a division that takes the divisor away where it can. What it takes away and the quotient's bit are one term, or 0: a choice between two numbers, not between two ways.
@@ -42,7 +42,7 @@ pub fn restoring_divide(num: i64, den: i16, steps: u32) -> i64
     ensures { result ≡ Fixed.restoring_divide num den steps }
 {
     let mut n = num;
-    for k in 0..steps {
+    for _ in 0..steps {
         n = restoring_step(n, den);
     }
     n
@@ -55,20 +55,13 @@ fn kept(num: i32, left: i32) -> i32
     if left >= 0 { left } else { num }
 }
 
-// The quotient's bit.
-fn bit(left: i32) -> i32
-    ensures { result ≡ Narrow.bit left }
-{
-    if left >= 0 { 1 } else { 0 }
-}
-
 // A step in 32 bits. What is kept and the bit are chosen between numbers that are there by then, and so without a branch, which could not be foretold.
 fn narrow_step(num: i32, den: i16) -> i32
     requires { Narrow.Below num den }
     ensures { result ≡ Fixed.restoring_step num den }
 {
     let left = num - (den as i32) * 32768;
-    fold_narrow(kept(num, left) * 2, bit(left))
+    fold_narrow(kept(num, left) * 2, i32::from(left >= 0))
 }
 
 // As many steps in 32 bits.
@@ -77,18 +70,10 @@ fn narrow_divide(num: i32, den: i16, steps: u32) -> i32
     ensures { result ≡ Fixed.restoring_divide num den steps }
 {
     let mut n = num;
-    for k in 0..steps {
+    for _ in 0..steps {
         n = narrow_step(n, den);
     }
     n
-}
-
-// The size of an accumulator.
-fn absolute(v: i64) -> i64
-    requires { nat_abs v ≤ REACH }
-    ensures { result ≡ pos (nat_abs v) }
-{
-    if v < 0 { -v } else { v }
 }
 
 // The low 16 bits of 16383 by a size, fifteen steps. Of what is normalised only 0 has a size below 16384.
@@ -108,7 +93,7 @@ fn size_reciprocal(n: i64) -> i64
     requires { nat_abs n ≤ REACH }
     ensures { result ≡ Fixed.size_reciprocal n }
 {
-    let size = (sat(absolute(n)) >> 16) as i16;
+    let size = (sat(n.abs()) >> 16) as i16;
     acc(reciprocal_bits(size) * 65536)
 }
 
@@ -132,34 +117,5 @@ pub fn normalised_reciprocal(value: i64) -> Reciprocal
         Reciprocal::Zero(quotient, exponent)
     } else {
         Reciprocal::Ordinary(quotient, exponent)
-    }
-}
-
-// Of either case.
-pub fn quotient(r: Reciprocal) -> i64
-    ensures { result ≡ Fixed.quotient r }
-{
-    match r {
-        Reciprocal::Zero(q, _) => q,
-        Reciprocal::Ordinary(q, _) => q,
-    }
-}
-
-pub fn exponent(r: Reciprocal) -> i32
-    ensures { result ≡ Fixed.exponent r }
-{
-    match r {
-        Reciprocal::Zero(_, e) => e,
-        Reciprocal::Ordinary(_, e) => e,
-    }
-}
-
-// 1 for the reciprocal of 0, which a caller may count.
-pub fn zeros(r: Reciprocal) -> u8
-    ensures { result ≡ Fixed.zeros r }
-{
-    match r {
-        Reciprocal::Zero(_, _) => 1,
-        Reciprocal::Ordinary(_, _) => 0,
     }
 }

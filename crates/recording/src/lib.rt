@@ -55,10 +55,7 @@ fn feed(words: &[i16], bytes: &[u8], recorder: Recorder, chunk: &[u8], room: &mu
     let mut state = recorder.state;
     let mut line = recorder.line;
     let mut n = 0;
-    let mut at = 0;
-    while at < chunk.len() {
-        let b = chunk[at];
-        at += 1;
+    for &b in chunk {
         if b == b'\n' {
             let said = end_line(words, bytes, first, state, line, &mut room[n..]);
             n += said.n;

@@ -2,6 +2,7 @@
 #![tactic(auto)]
 
 ghost use Rattle.std.specs.Prelude.{◌≡◌, length};
+ghost use Rattle.refusal.specs.Numbers as Numbers;
 ghost use Rattle.tables.specs.SoundWords.{SoundWords};
 ghost use Rattle.bits.specs.Bits as Bits;
 ghost use Rattle.observation.specs.Frame as Frame;
@@ -9,13 +10,15 @@ ghost use Rattle.calls.specs.Checks as Checks;
 ghost use Rattle.calls.specs.Frames as Frames;
 
 use bits::FrameParams;
+use refusal::{Refusal, told};
 use state::State;
 
 // The refusal number of what comes before a frame is looked at, or 0: the set's lengths, the sizes of what is lent with it (2, 3 or 0), the set's rules, the state.
+// Numbers and no Result: it hands on any number of sizes, and a narrower type would ask more of its callers.
 pub fn checked(words: &[i16], bytes: &[u8], state: State, sizes: u8) -> u8
     ensures { result ≡ Checks.checked words.now bytes.now state sizes }
 {
-    let set = rules::check(words, bytes);
+    let set = told(rules::check(words, bytes));
     if set == 1 {
         return 1;
     }
@@ -32,39 +35,30 @@ pub fn checked(words: &[i16], bytes: &[u8], state: State, sizes: u8) -> u8
 }
 
 // A frame's sizes.
-pub fn frame_sizes(payload: usize, room: usize) -> u8
-    ensures { result ≡ Checks.frame_sizes payload room }
+pub fn frame_sizes(payload: usize, room: usize) -> Result<(), Refusal>
+    ensures { Numbers.told result ≡ Checks.frame_sizes payload room }
 {
     if room != 320 {
-        return 2;
+        return Err(Refusal::Room);
     }
     if payload != 20 {
-        return 3;
+        return Err(Refusal::FrameLength);
     }
-    0
+    Ok(())
 }
 
-// Those of 1 to 64 frames laid end to end; here 3 is tried before 2.
-pub fn frames_sizes(payloads: usize, room: usize, answers: usize) -> u8
-    ensures { result ≡ Frames.frames_sizes payloads room answers }
+// Those of 1 to 64 frames laid end to end; here the payloads are tried before the rooms.
+pub fn frames_sizes(payloads: usize, room: usize, answers: usize) -> Result<(), Refusal>
+    ensures { Numbers.told result ≡ Frames.frames_sizes payloads room answers }
 {
     let n = payloads / 20;
-    if payloads != 20 * n {
-        return 3;
+    if payloads != 20 * n || n < 1 || 64 < n {
+        return Err(Refusal::FrameLength);
     }
-    if n < 1 {
-        return 3;
+    if room != 320 * n || answers != n {
+        return Err(Refusal::Room);
     }
-    if 64 < n {
-        return 3;
-    }
-    if room != 320 * n {
-        return 2;
-    }
-    if answers != n {
-        return 2;
-    }
-    0
+    Ok(())
 }
 
 // Whether refusal 7 has nothing against the four code indexes.
@@ -72,32 +66,24 @@ fn digits_fit(words: &[i16], f: FrameParams) -> bool
     requires { SoundWords words.now }
     ensures { result ≡ Frame.digits_fit words.now f }
 {
-    let p = f.first;
-    let q = f.second;
-    if !code_index::digits_fit(words, p.code0) {
-        return false;
-    }
-    if !code_index::digits_fit(words, p.code1) {
-        return false;
-    }
-    if !code_index::digits_fit(words, q.code0) {
-        return false;
-    }
-    code_index::digits_fit(words, q.code1)
+    code_index::digits_fit(words, f.first.code0)
+        && code_index::digits_fit(words, f.first.code1)
+        && code_index::digits_fit(words, f.second.code0)
+        && code_index::digits_fit(words, f.second.code1)
 }
 
-// What a payload of 20 bytes is refused with, or 0. The fields are the payload's, where it has any.
-pub fn spoilt(words: &[i16], payload: &[u8], f: FrameParams) -> u8
+// What a payload of 20 bytes is refused with. The fields are the payload's, where it has any.
+pub fn spoilt(words: &[i16], payload: &[u8], f: FrameParams) -> Result<(), Refusal>
     requires fact_1 { SoundWords words.now }
     requires fact_2 { length payload.now ≡ 20 }
     requires fact_3 { f ≡ Bits.fields (Bits.unpack payload.now) }
-    ensures { result ≡ Checks.spoilt words.now payload.now }
+    ensures { Numbers.told result ≡ Checks.spoilt words.now payload.now }
 {
     if payload[19] & 0xc0 != 0 {
-        return 6;
+        return Err(Refusal::Padding);
     }
     if digits_fit(words, f) {
-        return 0;
+        return Ok(());
     }
-    7
+    Err(Refusal::CodeIndex)
 }

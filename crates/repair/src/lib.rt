@@ -26,6 +26,7 @@ pub struct Fed {
 }
 
 // The start of a file.
+#[tactic(auto, unfolding(crate::specs::Feed::begin))]
 pub fn begin() -> Mender
     ensures { result ≡ Feed.begin }
 {
@@ -39,6 +40,7 @@ pub fn begin() -> Mender
 }
 
 // How much of what is held is looked at: a line that is too long is replaced, as an empty one is.
+#[tactic(auto, unfolding(crate::specs::Feed::told_count))]
 fn told(n: usize) -> usize
     ensures value { result ≡ Feed.told_count n }
     ensures upper_bound { result ≤ 4096 }
@@ -47,6 +49,7 @@ fn told(n: usize) -> usize
 }
 
 // A byte more of the line that is held.
+#[tactic(auto, unfolding(stream::specs::Held::push_text, stream::specs::Held::push_count))]
 fn push(held: &mut [u8], n: usize, b: u8) -> usize
     requires { length held.old ≡ 4096 }
     ensures count { result ≡ push_count 4096 n }
@@ -75,27 +78,23 @@ fn feed(mender: Mender, held: &mut [u8], chunk: &[u8], out: &mut [u8], list: &mu
     let mut n = mender.n;
     let mut repaired = 0;
     let mut listed = 0;
-    let mut at = 0;
-    while at < chunk.len() {
-        let b = chunk[at];
-        at += 1;
-        if b == b'\n' {
-            let k = told(n);
-            let e = end_line(
-                place,
-                &held[..k],
-                true,
-                &mut out[repaired..],
-                &mut list[listed..],
-            );
-            let p = e.place;
-            place = p;
-            repaired += e.repaired;
-            listed += e.listed;
-            n = 0;
-        } else {
-            n = push(held, n, b);
+    for b in chunk {
+        if *b != b'\n' {
+            n = push(held, n, *b);
+            continue;
         }
+        let k = told(n);
+        let e = end_line(
+            place,
+            &held[..k],
+            true,
+            &mut out[repaired..],
+            &mut list[listed..],
+        );
+        place = e.place;
+        repaired += e.repaired;
+        listed += e.listed;
+        n = 0;
     }
     Fed {
         mender: Mender { place, n },

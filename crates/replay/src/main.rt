@@ -20,18 +20,6 @@ fn answer(rt: &HostRuntime, q: Question) {
     }
 }
 
-fn answers(rt: &HostRuntime, s: &[u8]) {
-    let mut from = 0;
-    while from < s.len() {
-        let q = questions::line(s, from);
-        from = q.next;
-        answer(rt, q);
-    }
-}
-
 fn main(rt: HostRuntime) {
-    let mut room = [0u8; 262144];
-    let got = pipe::read_full(&rt, &mut room);
-    let n = got.n;
-    answers(&rt, &room[..n]);
+    asking::each_asked(&rt, |q| answer(&rt, q));
 }

@@ -1,16 +1,8 @@
 // The answers of fixed: the operation's number, then its arguments.
-use numbers::{say, wide_word};
+use numbers::say;
 
 fn word(x: i64) -> i16 {
     fixed::low(x)
-}
-
-fn wide32(x: i32) -> i64 {
-    x as i64
-}
-
-fn wide8(x: u8) -> i64 {
-    x as i64
 }
 
 // An amount of 32 bits.
@@ -33,13 +25,13 @@ pub fn answer(rt: &HostRuntime, n: [i64; 128]) {
     match n[1] {
         0 => one(rt, fixed::acc(v)),
         1 => one(rt, fixed::sat(v)),
-        2 => one(rt, wide_word(fixed::hi(v))),
-        3 => one(rt, wide_word(fixed::low(v))),
+        2 => one(rt, i64::from(fixed::hi(v))),
+        3 => one(rt, i64::from(fixed::low(v))),
         4 => one(rt, fixed::mul(x, y)),
         5 => one(rt, fixed::mul_us(x, y)),
         6 => one(rt, fixed::mul32x16(v, y)),
         7 => one(rt, fixed::trunc32(v)),
-        8 => one(rt, wide32(reciprocal::exp(v))),
+        8 => one(rt, i64::from(reciprocal::exp(v))),
         9 => one(rt, fixed::shift(v, amount(n[3]))),
         10 => one(rt, divided(v, y, fixed::magnitude(n[4]))),
         _ => {
@@ -47,9 +39,9 @@ pub fn answer(rt: &HostRuntime, n: [i64; 128]) {
             say(
                 rt,
                 &[
-                    reciprocal::quotient(r),
-                    wide32(reciprocal::exponent(r)),
-                    wide8(reciprocal::zeros(r)),
+                    r.quotient(),
+                    i64::from(r.exponent()),
+                    i64::from(r.is_zero()),
                 ],
             );
         }

@@ -22,33 +22,18 @@ fn answer(rt: &HostRuntime, words: &[i16], bytes: &[u8], q: Question)
     }
 }
 
-fn answers(rt: &HostRuntime, words: &[i16], bytes: &[u8], s: &[u8])
-    requires { (length words.now ≡ WORDS) × (length bytes.now ≡ BYTES) }
-{
-    let mut from = 0;
-    while from < s.len() {
-        let q = questions::line(s, from);
-        from = q.next;
-        answer(rt, words, bytes, q);
-    }
-}
-
 // What is asked on standard input.
 fn asked_all(rt: &HostRuntime, words: &[i16], bytes: &[u8])
     requires { (length words.now ≡ WORDS) × (length bytes.now ≡ BYTES) }
 {
-    let mut room = [0u8; 262144];
-    let got = pipe::read_full(rt, &mut room);
-    let n = got.n;
-    answers(rt, words, bytes, &room[..n]);
+    asking::each_asked(rt, |q| answer(rt, words, bytes, q));
 }
 
 fn main(rt: HostRuntime) {
     let mut file = [0u8; 15835];
-    let got = pipe::read_file(&rt, b"tables.bin", &mut file);
-    let n = got.n;
+    let n = pipe::moved(pipe::read_file(&rt, b"tables.bin", &mut file));
     let mut words = [0i16; 5963];
-    if table_file::check_file(&file[..n], &mut words) == 0 {
+    if table_file::check_file(&file[..n], &mut words).is_ok() {
         asked_all(&rt, &words, &file[11926..15834]);
     }
 }

@@ -5,7 +5,7 @@ ghost use Rattle.tables.specs.Places.{BYTES};
 
 use fixed::magnitude;
 use gain::Decoded;
-use numbers::{floats_from, say_floats, say_numbers, wide_word, words};
+use numbers::{floats_from, say_floats, say_numbers, words};
 
 fn index(x: i64) -> usize
     ensures { result < 128 }
@@ -29,8 +29,8 @@ fn decoded(bytes: &[u8], n: [i64; 128]) -> Decoded
 
 fn say_decoded(rt: &HostRuntime, d: Decoded) {
     let after = d.gains;
-    say_numbers(rt, &[wide_word(d.pitch_gain), wide_word(d.code_gain)]);
-    pipe::write(rt, b" ");
+    say_numbers(rt, &[i64::from(d.pitch_gain), i64::from(d.code_gain)]);
+    let _ = pipe::write(rt, b" ");
     say_floats(rt, &after);
 }
 

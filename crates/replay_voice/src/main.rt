@@ -30,46 +30,30 @@ fn answer(rt: &HostRuntime, words: &[i16], other: &[i16], q: Question)
     }
 }
 
-fn answers(rt: &HostRuntime, words: &[i16], other: &[i16], s: &[u8])
-    requires { SoundWords words.now × (length other.now ≡ WORDS) }
-{
-    let mut from = 0;
-    while from < s.len() {
-        let q = questions::line(s, from);
-        from = q.next;
-        answer(rt, words, other, q);
-    }
-}
-
 // What is asked on standard input.
 fn asked_all(rt: &HostRuntime, words: &[i16], other: &[i16])
     requires { SoundWords words.now × (length other.now ≡ WORDS) }
 {
-    let mut room = [0u8; 262144];
-    let got = pipe::read_full(rt, &mut room);
-    let n = got.n;
-    answers(rt, words, other, &room[..n]);
+    asking::each_asked(rt, |q| answer(rt, words, other, q));
 }
 
 // A set that breaks a rule has no answers.
 fn replayed(rt: &HostRuntime, words: &[i16], bytes: &[u8], other: &[i16])
     requires { length other.now ≡ WORDS }
 {
-    if rules::check(words, bytes) == 0 {
+    if let Ok(()) = rules::check(words, bytes) {
         asked_all(rt, words, other);
     }
 }
 
 fn main(rt: HostRuntime) {
     let mut file = [0u8; 15835];
-    let narrow = pipe::read_file(&rt, b"narrow.bin", &mut file);
-    let m = narrow.n;
+    let m = pipe::moved(pipe::read_file(&rt, b"narrow.bin", &mut file));
     let mut other = [0i16; 5963];
-    if table_file::check_file(&file[..m], &mut other) == 0 {
-        let got = pipe::read_file(&rt, b"tables.bin", &mut file);
-        let n = got.n;
+    if table_file::check_file(&file[..m], &mut other).is_ok() {
+        let n = pipe::moved(pipe::read_file(&rt, b"tables.bin", &mut file));
         let mut words = [0i16; 5963];
-        if table_file::check_file(&file[..n], &mut words) == 0 {
+        if table_file::check_file(&file[..n], &mut words).is_ok() {
             replayed(&rt, &words, &file[11926..15834], &other);
         }
     }

@@ -9,7 +9,7 @@ fn index(x: i64) -> u16 {
 }
 
 fn say_innovation(rt: &HostRuntime, i: Innovation) {
-    pipe::write(rt, b"1 ");
+    let _ = pipe::write(rt, b"1 ");
     numbers::say_digits(rt, i.class as u64);
     let code = i.code;
     say_words(rt, &code, true);

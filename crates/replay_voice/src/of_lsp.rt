@@ -42,7 +42,7 @@ fn eleven(n: [i64; 128]) -> [i16; 11] {
 fn say_reflection(rt: &HostRuntime, r: Reflection) {
     let coefficients = r.coefficients;
     say_words(rt, &coefficients, false);
-    pipe::write(rt, b" ");
+    let _ = pipe::write(rt, b" ");
     numbers::say_digits(rt, r.zero_residuals as u64);
     end_line(rt);
 }

@@ -7,7 +7,7 @@ use Rattle.state.specs.State.{all_zero}
 use Rattle.slots.specs.declared.Slot.{Slot}
 use Rattle.shelf.specs.Run.{Shelf}
 use Rattle.places.specs.Frames.{frames}
-use Rattle.seek.specs.declared.Sought.{Sought}
+use Rattle.seek.specs.Seek.{Sought}
 use Rattle.replies.specs.declared.Cue.{Cue}
 use Rattle.replies.specs.declared.Obeyed.{Obeyed}
 

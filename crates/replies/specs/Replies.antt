@@ -1,10 +1,12 @@
 -- What a command of the player is answered: the words, and what is said of a save.
-use Rattle.std.specs.Prelude.{ℕ, ◌≡◌, List, [], ◌∷◌, ◌++◌, cond, eqb}
-use Rattle.std.proofs.Common.{eq-eqb, ne_eqb}
+use Rattle.std.specs.Prelude.{ℕ, ◌≡◌, List, [], ◌∷◌, ◌++◌, cond, eqb, Result, Ok, Err}
+use Rattle.std.proofs.Common.{refl, eq-eqb, ne_eqb}
 use Rattle.stream.specs.Decimal.{decimal, figure}
 use Rattle.shelf.specs.Shelf.{number, slot_of}
 use Rattle.shelf.specs.Run.{Shelf, after, save, saving}
-use Rattle.seek.specs.declared.Sought.{Sought}
+use Rattle.refusal.specs.declared.Refusal.{Refusal}
+use Rattle.refusal.specs.Numbers as Numbers
+use Rattle.seek.specs.Seek.{Sought}
 
 -- ---- the words: `refused `, `saved `, `held `, `let go `, `frame `, ` mark `, `unknown`
 abbrev pub refused_word : List ℕ
@@ -39,6 +41,23 @@ answered_yes n text e = rw (eq-eqb n 0 e)
 pub answered_no : (n : ℕ) (text : List ℕ) → (n ≡ 0 → ⊥) → answered n text ≡ figure refused_word n
 unfolding answered
 answered_no n text z = rw (ne_eqb n 0 z)
+
+-- the same of a function's answer: a refusal's line, or one of a name and a number
+abbrev pub refused : Refusal → List ℕ
+refused r = figure refused_word (Numbers.number r)
+
+abbrev pub answer_line : List ℕ → Result ℕ Refusal → List ℕ
+answer_line name (Ok v) = figure name v
+answer_line name (Err r) = refused r
+
+-- a number in the place of what is answered
+abbrev pub valued : {A : Type 0} → ℕ → Result A Refusal → Result ℕ Refusal
+valued k (Ok x) = Ok k
+valued k (Err r) = Err r
+
+pub answered_told : {A : Type 0} (name : List ℕ) (k : ℕ) (a : Result A Refusal) → answered (Numbers.told a) (figure name k) ≡ answer_line name (valued k a)
+answered_told name k (Ok x) = answered_yes 0 (figure name k) refl
+answered_told name k (Err r) = answered_no (Numbers.number r) (figure name k) (Numbers.number_not_0 r)
 
 -- `frame K mark M`
 unfoldable pub frame_mark : ℕ → ℕ → List ℕ

@@ -5,10 +5,11 @@ ghost use Rattle.std.specs.Prelude.{◌≡◌, ◌≤◌, length};
 ghost use Rattle.stream.specs.Decimal.{figure};
 ghost use Rattle.shelf.specs.Shelf as Shelf;
 ghost use Rattle.shelf.specs.Shelf.{number, slots_after};
+ghost use Rattle.seek.specs.Seek as Seek;
 ghost use Rattle.replies.specs.Replies as Replies;
 ghost use Rattle.replies.specs.Promised as Promised;
 
-use seek::Sought;
+use refusal::Refusal;
 use slots::Slot;
 use state::State;
 
@@ -39,16 +40,37 @@ pub fn silence() -> Cue
     }
 }
 
+// `refused N`
+pub fn put_refused(why: Refusal, room: &mut [u8]) -> usize
+    requires { 64 ≤ length room.old }
+    ensures { Promised.Put (Replies.refused why) room.old result room.new }
+{
+    stream::put_figure(b"refused ", u64::from(why.number()), 0, room)
+}
+
 // `refused N`, or where nothing is refused a line of a name and a number.
+// A number and no Refusal: it takes any, and a narrower type would ask more of its callers.
 pub fn put_answer(number: u8, name: &[u8], value: u32, room: &mut [u8]) -> usize
     requires fact_1 { length name.now ≤ 8 }
     requires fact_2 { 64 ≤ length room.old }
     ensures { Promised.Put (Replies.answered number (figure name.now value)) room.old result room.new }
 {
     if number != 0 {
-        return stream::put_figure(b"refused ", number as u64, 0, room);
+        return stream::put_figure(b"refused ", u64::from(number), 0, room);
     }
-    stream::put_figure(name, value as u64, 0, room)
+    stream::put_figure(name, u64::from(value), 0, room)
+}
+
+// The same of a function's answer.
+pub fn put_result(answer: Result<u32, Refusal>, name: &[u8], room: &mut [u8]) -> usize
+    requires name_fits { length name.now ≤ 8 }
+    requires room_fits { 64 ≤ length room.old }
+    ensures { Promised.Put (Replies.answer_line name.now answer) room.old result room.new }
+{
+    match answer {
+        Ok(value) => stream::put_figure(name, u64::from(value), 0, room),
+        Err(why) => put_refused(why, room),
+    }
 }
 
 // `frame K mark M`
@@ -57,58 +79,48 @@ fn put_frame_mark(k: u32, mark: u8, room: &mut [u8]) -> usize
     ensures { Promised.Put (Replies.frame_mark k mark) room.old result room.new }
 {
     let a = stream::put_at(b"frame ", 0, room);
-    let b = stream::put_decimal(k as u64, a, room);
-    stream::put_figure(b" mark ", mark as u64, b, room)
+    let b = stream::put_decimal(u64::from(k), a, room);
+    stream::put_figure(b" mark ", u64::from(mark), b, room)
 }
 
 // `hold S`
-pub fn hold(slots: [Slot; 16], images: &[u8], k: u32, room: &mut [u8]) -> Obeyed
+pub fn hold(mut slots: [Slot; 16], images: &[u8], k: u32, room: &mut [u8]) -> Obeyed
     requires { 64 ≤ length room.old }
     ensures { Promised.Quiet (slots_after (Shelf.hold slots (length images.now) k) slots) (Replies.answered (number (Shelf.hold slots (length images.now) k)) (figure Replies.held_word k)) room.old result room.new }
 {
-    let a = shelf::hold_by_value(slots, images, k);
-    let number = a.number;
-    let after = a.slots;
+    let answer = shelf::hold(&mut slots, images, k);
     Obeyed {
-        slots: after,
+        slots,
         cue: silence(),
-        n: put_answer(number, b"held ", k, room),
+        n: put_result(answer.map(|()| k), b"held ", room),
     }
 }
 
 // `let go S`
-pub fn let_go(slots: [Slot; 16], images: &[u8], k: u32, room: &mut [u8]) -> Obeyed
+pub fn let_go(mut slots: [Slot; 16], images: &[u8], k: u32, room: &mut [u8]) -> Obeyed
     requires { 64 ≤ length room.old }
     ensures { Promised.Quiet (slots_after (Shelf.let_go slots (length images.now) k) slots) (Replies.answered (number (Shelf.let_go slots (length images.now) k)) (figure Replies.let_go_word k)) room.old result room.new }
 {
-    let a = shelf::let_go_by_value(slots, images, k);
-    let number = a.number;
-    let after = a.slots;
+    let answer = shelf::let_go(&mut slots, images, k);
     Obeyed {
-        slots: after,
+        slots,
         cue: silence(),
-        n: put_answer(number, b"let go ", k, room),
+        n: put_result(answer.map(|()| k), b"let go ", room),
     }
 }
 
 // `seek K`, of what was found
-pub fn tell(s: Sought, slots: [Slot; 16], k: u32, room: &mut [u8]) -> Obeyed
+pub fn tell(s: Result<State, Refusal>, slots: [Slot; 16], k: u32, room: &mut [u8]) -> Obeyed
     requires { 64 ≤ length room.old }
-    ensures { Promised.Quiet slots (Replies.answered s.number (Replies.frame_mark k s.state.mark)) room.old result room.new }
+    ensures { Promised.Quiet slots (Replies.answered (Seek.answer s).number (Replies.frame_mark k (Seek.answer s).state.mark)) room.old result room.new }
 {
-    let number = s.number;
-    if number != 0 {
-        return Obeyed {
-            slots,
-            cue: silence(),
-            n: put_answer(number, b"frame ", 0, room),
-        };
-    }
-    let state = s.state;
     Obeyed {
         slots,
         cue: silence(),
-        n: put_frame_mark(k, state.mark, room),
+        n: match s {
+            Ok(state) => put_frame_mark(k, state.mark, room),
+            Err(why) => put_refused(why, room),
+        },
     }
 }
 

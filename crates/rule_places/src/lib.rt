@@ -16,20 +16,18 @@ pub fn limit_bad(words: &[i16], k: usize) -> bool
     ensures { result ≡ Tables.limit_bad words.now k }
 {
     let x = unsigned_word(words, FCB_INDEX_LIMIT + k);
-    if k == 0 {
-        return x == 0;
+    match k {
+        0 => x == 0,
+        1 => x != 0,
+        _ => x < unsigned_word(words, FCB_INDEX_LIMIT + k - 1),
     }
-    if k == 1 {
-        return x != 0;
-    }
-    x < unsigned_word(words, FCB_INDEX_LIMIT + k - 1)
 }
 
 // Whether x is within low..=high.
 fn between(low: i16, high: i16, x: i16) -> bool
     ensures { result ≡ Tables.between low high x }
 {
-    if low <= x { x <= high } else { false }
+    low <= x && x <= high
 }
 
 // Rule 2's k-th place.
@@ -66,10 +64,7 @@ pub fn entry_bad(words: &[i16], k: usize) -> bool
     ensures { result ≡ Tables.entry_bad words.now k }
 {
     let x = word(words, FCB_ALT_A + k);
-    if between(-80, -1, x) {
-        return false;
-    }
-    !between(1, 80, x)
+    !between(-80, -1, x) && !between(1, 80, x)
 }
 
 // Rule 6's.

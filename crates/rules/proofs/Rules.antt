@@ -1,46 +1,21 @@
 -- What the tables of the rules' counts, starts and strides say of any rule.
-use Prim.Native.Nat.{ℕ, zero, suc, ◌*◌, ◌<◌, ◌≤◌}
+use Prim.Native.Nat.{ℕ, zero, suc, ◌<◌, ◌≤◌}
 use mathlib.Core.Path.{◌≡◌, refl}
 use mathlib.Core.List.{List, [], ◌∷◌}
 use mathlib.Core.Bool.{Bool, true, false, cond}
 use native.Mathlib.Omega.{arith}
-use native.Mathlib.Nat.{mul-le-mul, not-suc-le-zero}
-use lib.Dec.{leb, ltb}
+use lib.Dec.{ltb}
 use lib.ListN.{get_or}
 use lib.IntN.{ℤ}
-use borrow.Author.Tests.{leb-true, le-ltb, lt-ltb}
+use borrow.Author.Tests.{le-ltb, lt-ltb}
 use Rattle.sequence.specs.First.{first, first_from, first_more, some, some_none}
 use Rattle.tables.specs.declared.Fault.{Fault}
-use Rattle.sequence.specs.All.{all, and_left, and_right}
 use Rattle.tables.specs.Tables.{count, place, bad, broken, report, first_fault}
-
--- a list of numbers that are all at most B
-at_most : (B : ℕ) (l : List ℕ) → all (λ x. leb x B) l ≡ true → (k : ℕ) → get_or l k 0 ≤ B
-at_most B [] e k = omega arith
-at_most B (x ∷ xs) e zero = leb-true x B (and_left (leb x B) (all (λ y. leb y B) xs) e)
-at_most B (x ∷ xs) e (suc k) = at_most B xs (and_right (leb x B) (all (λ y. leb y B) xs) e) k
-
-pub count_le : (r : ℕ) → count r ≤ 3200
-unfolding count
-count_le r = at_most 3200 (0 ∷ 7 ∷ 5 ∷ 5 ∷ 600 ∷ 3200 ∷ 977 ∷ []) refl r
-
-pub start_le : (r : ℕ) → get_or (0 ∷ 186 ∷ 193 ∷ 198 ∷ 243 ∷ 1483 ∷ 0 ∷ []) r 0 ≤ 1483
-start_le r = at_most 1483 (0 ∷ 186 ∷ 193 ∷ 198 ∷ 243 ∷ 1483 ∷ 0 ∷ []) refl r
-
-pub stride_le : (r k : ℕ) → k < count r → get_or (0 ∷ 1 ∷ 1 ∷ 3 ∷ 1 ∷ 1 ∷ 4 ∷ []) r 0 * k ≤ 12800
-stride_le r k h =
-    let c = count_le r in
-    let b : k ≤ 3200 = omega arith in
-    mul-le-mul (at_most 4 (0 ∷ 1 ∷ 1 ∷ 3 ∷ 1 ∷ 1 ∷ 4 ∷ []) refl r) b
-
--- rule 0 has no place
-some_rule : (r k : ℕ) → k < count r → 0 < r
-unfolding count
-some_rule zero k h = absurd (not-suc-le-zero h)
-some_rule (suc r) k h = omega arith
-
-pub six : (r k : ℕ) → r < 7 → k < count r → (r ≡ 1 → ⊥) → (r ≡ 2 → ⊥) → (r ≡ 3 → ⊥) → (r ≡ 4 → ⊥) → (r ≡ 5 → ⊥) → r ≡ 6
-six r k h p a b c d e = let q = some_rule r k p in omega arith
+use Rattle.rules.specs.declared.Rule.{Rule}
+use Rattle.rules.specs.declared.Rule.TheVariants.{Limit, Pulses, Selector, Position, Entry, Float}
+use Rattle.rules.specs.Rule.{number}
+use Rattle.std.specs.Prelude.{◌||◌, ◌+◌}
+use Rattle.std.specs.List.{list_any}
 
 -- ---- one turn of the loop over the rules
 module _ (words : List ℤ) (bytes : List ℕ) (r k n : ℕ) (e : k ≡ first (bad words bytes r) (count r)) (f : n ≡ count r) where
@@ -67,12 +42,32 @@ module _ (words : List ℤ) (bytes : List ℕ) where
   unfolding first_fault report
   nothing_told r h w = rw (w, le-ltb r 7 h)
 
--- ---- whether any of the six is broken, one after the other
--- where the first five are not, it is the sixth
-pub sixth : (f : ℕ → Bool) → f 0 ≡ false → f 1 ≡ false → f 2 ≡ false → f 3 ≡ false → f 4 ≡ false → f 5 ≡ false → f 6 ≡ some f 7
+-- ---- the rules in their order
+abbrev pub six : List Rule
+six = Limit ∷ Pulses ∷ Selector ∷ Position ∷ Entry ∷ Float ∷ []
+
+pub numbered : (d : Rule) (i : ℕ) → i < 6 → number (get_or six i d) ≡ i + 1
+numbered d zero h = refl
+numbered d (suc zero) h = refl
+numbered d (suc (suc zero)) h = refl
+numbered d (suc (suc (suc zero))) h = refl
+numbered d (suc (suc (suc (suc zero)))) h = refl
+numbered d (suc (suc (suc (suc (suc zero))))) h = refl
+numbered d (suc (suc (suc (suc (suc (suc i)))))) h = absurd (omega arith)
+
+pub any_of : (f : ℕ → Bool) → f 0 ≡ false → list_any (λ r. f (number r)) six ≡ some f 7
 unfolding first_from
-sixth f o a b c d e = rw (o, a, b, c, d, e) (by (f 6))
+any_of f o = rw o (by (f 1) (f 2) (f 3) (f 4) (f 5) (f 6))
   where
-    by : (g : Bool) → g ≡ ltb (cond g 6 7) 7
-    by true = refl
-    by false = refl
+    by : (a b c d e g : Bool) → a || (b || (c || (d || (e || (g || false))))) ≡ ltb (cond a 1 (cond b 2 (cond c 3 (cond d 4 (cond e 5 (cond g 6 7)))))) 7
+    by true b c d e g = refl
+    by false true c d e g = refl
+    by false false true d e g = refl
+    by false false false true e g = refl
+    by false false false false true g = refl
+    by false false false false false true = refl
+    by false false false false false false = refl
+
+pub any_told : (words : List ℤ) (bytes : List ℕ) → list_any (λ r. broken words bytes (number r)) six ≡ some (broken words bytes) 7
+unfolding broken count
+any_told words bytes = any_of (broken words bytes) (some_none (bad words bytes 0))

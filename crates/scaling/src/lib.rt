@@ -14,20 +14,14 @@ const OUT_SCALE: i16 = 19661;
 pub fn short(v: i32) -> i16
     ensures { result ≡ Sections.short v }
 {
-    if v < -32768 {
-        -32768
-    } else if 32767 < v {
-        32767
-    } else {
-        v as i16
-    }
+    v.clamp(-32768, 32767) as i16
 }
 
 // Whether that changes a value.
 fn beyond(v: i32) -> bool
     ensures { result ≡ Sections.beyond v }
 {
-    if v < -32768 { true } else { 32767 < v }
+    v < -32768 || 32767 < v
 }
 
 // A value scaled, rounded, and not yet saturated: all in 32 bits.
@@ -41,11 +35,8 @@ fn scaled_by(value: i16, scale: i16) -> i32
 pub fn scale(block: &mut [i16])
     ensures { block.new ≡ map Postfilter.scaled block.old }
 {
-    let mut n = 0;
-    while n < block.len() {
-        let y = short(scaled_by(block[n], OUT_SCALE));
-        block[n] = y;
-        n += 1;
+    for x in block.iter_mut() {
+        *x = short(scaled_by(*x, OUT_SCALE));
     }
 }
 
@@ -53,8 +44,5 @@ pub fn scale(block: &mut [i16])
 pub fn clips_at(first: i32, second: i32) -> bool
     ensures { result ≡ Sections.clips_at first second }
 {
-    if beyond(first) {
-        return true;
-    }
-    beyond(scaled_by(short(second), OUT_SCALE))
+    beyond(first) || beyond(scaled_by(short(second), OUT_SCALE))
 }

@@ -7,9 +7,10 @@ ghost use Rattle.fixed.specs.Fixed as Fixed;
 ghost use Rattle.output_filter.specs.Postfilter as Postfilter;
 ghost use Rattle.output_filter.specs.Sections as Sections;
 
-use fixed::{ends, fold, mul, one, shift, trunc32};
+use fixed::{ends, fold, mul, shift, trunc32};
 use output_filter::{Lines, OutputFilter, Taps};
 use scaling::{clips_at, short};
+use std::array;
 use tables::{OUT_FIR, OUT_IIR, word};
 
 // The words are read once, not at each sample.
@@ -18,17 +19,8 @@ pub fn taps_of(words: &[i16]) -> Taps
     ensures { result ≡ Postfilter.taps_of words.now }
 {
     Taps {
-        ff: [
-            word(words, OUT_FIR),
-            word(words, OUT_FIR + 1),
-            word(words, OUT_FIR + 2),
-            word(words, OUT_FIR + 3),
-        ],
-        fb: [
-            word(words, OUT_IIR),
-            word(words, OUT_IIR + 1),
-            word(words, OUT_IIR + 2),
-        ],
+        ff: array::from_fn(|k| word(words, OUT_FIR + k)),
+        fb: array::from_fn(|k| word(words, OUT_IIR + k)),
     }
 }
 
@@ -91,14 +83,12 @@ pub fn through(taps: Taps, lines: Lines, input: &[i16], output: &mut [i32]) -> L
     ensures left { result ≡ Sections.left taps lines input.now }
 {
     let mut state = lines;
-    let mut n = 0;
-    while n < input.len() {
+    // By index: two slices, place by place.
+    for n in 0..input.len() {
         let x = input[n];
         let sum = section_sum(taps, state, x);
-        let y = wide(sum);
-        output[n] = y;
+        output[n] = wide(sum);
         state = moved(state, x, sum);
-        n += 1;
     }
     state
 }
@@ -108,11 +98,9 @@ pub fn shorten(input: &[i32], output: &mut [i16])
     requires { length output.old ≡ length input.now }
     ensures { output.new ≡ map Sections.short input.now }
 {
-    let mut n = 0;
-    while n < input.len() {
-        let y = short(input[n]);
-        output[n] = y;
-        n += 1;
+    // By index: two slices, place by place.
+    for n in 0..input.len() {
+        output[n] = short(input[n]);
     }
 }
 
@@ -127,8 +115,9 @@ pub fn clipped(first: &[i32], second: &[i32], firsts: &[i16], outputs: &[i16]) -
         return 0;
     }
     let mut clipped = 0u8;
+    // By index: two slices, place by place.
     for n in 0..first.len() {
-        clipped += one(clips_at(first[n], second[n]));
+        clipped += u8::from(clips_at(first[n], second[n]));
     }
     clipped
 }

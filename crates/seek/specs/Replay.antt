@@ -23,9 +23,8 @@ use Rattle.shelf.specs.Shelf.{ROOM, state_at, lent, judged}
 use Rattle.shelf.specs.Cases.{is_lent}
 use Rattle.places.specs.Frames.{frames}
 use Rattle.forward.specs.Forward.{forward, before, forward_before}
-use Rattle.seek.specs.declared.Sought.{Sought}
 use Rattle.best_save.specs.Best.{fits, best, best_means, none_means}
-use Rattle.seek.specs.Seek.{not_sought, of_set, saved, saved_at, from_save, seek_lent, seek}
+use Rattle.seek.specs.Seek.{Sought, not_sought, of_set, saved, saved_at, from_save, seek_lent, seek}
 
 no : (b : Bool) → b ≡ true → b ≡ false → ⊥
 no b e f = let z : ◌≡◌ {A = ℕ} 0 1 = cc in omega arith

@@ -1,5 +1,7 @@
 -- Seeking frame k of a recording: the state that it will be decoded with, forward from the best save.
-use Rattle.std.specs.Prelude.{ℕ, zero, suc, List, ◌&&◌, cond, ltb, ℤ, length}
+use Rattle.std.specs.Prelude.{ℕ, zero, suc, List, ◌&&◌, cond, ltb, ℤ, length, Result, Ok, Err}
+use Rattle.refusal.specs.declared.Refusal.{Refusal}
+use Rattle.refusal.specs.Numbers as Numbers
 use Rattle.tables.specs.Tables.{check}
 use Rattle.state.specs.declared.State.{State}
 use Rattle.state.specs.State.{all_zero, obeys}
@@ -9,11 +11,20 @@ use Rattle.shelf.specs.Shelf.{state_at, judged}
 use Rattle.places.specs.Frames.{frames}
 use Rattle.forward.specs.Forward.{forward}
 use Rattle.best_save.specs.Best.{best}
-use Rattle.seek.specs.declared.Sought.{Sought}
+
+-- what a seek answers: a refusal number and the all-zero state, or 0 and the state that frame k will be decoded with
+pub record Sought : Type 0 where
+  pub number : ℕ
+  pub state : State
 
 -- a refusal gives the all-zero state
 abbrev pub not_sought : ℕ → Sought
 not_sought n = record { number = n; state = all_zero }
+
+-- the answer of a function
+abbrev pub answer : Result State Refusal → Sought
+answer (Ok s) = record { number = 0; state = s }
+answer (Err r) = not_sought (Numbers.number r)
 
 -- the set's refusal, 1 or 4, or what an accepted one gives
 unfoldable pub of_set : ℕ → Sought → Sought

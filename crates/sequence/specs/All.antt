@@ -1,5 +1,6 @@
 -- A test passed by every element of a list, and a loop that tests an element a turn.
 use Rattle.std.specs.Prelude.{ℕ, zero, suc, ◌+◌, ◌<◌, ◌≡◌, refl, List, [], ◌∷◌, Bool, true, false, ◌&&◌, T, length, get_or, drop}
+use Rattle.std.specs.List.{list_all}
 use Rattle.std.proofs.Common.{sym, ◌∙◌, ap, subst, add-one, arith, le_of_suc-le-suc, not-suc-le-zero, drop-cons}
 
 pub is_true : (b : Bool) → T b → b ≡ true
@@ -18,9 +19,9 @@ and_right true b e = e
 and_right false b e = cc
 
 module _ {A : Type 0} where
+  -- what std says of `iter().all(..)`
   abbrev pub all : (A → Bool) → List A → Bool
-  all f [] = true
-  all f (x ∷ xs) = f x && all f xs
+  all = list_all
 
   -- the element at i passes: what is left to test starts one further
   pub all_more : (f : A → Bool) (l : List A) (i : ℕ) (d : A) → i < length l → f (get_or l i d) ≡ true → all f (drop i l) ≡ all f (drop (i + 1) l)

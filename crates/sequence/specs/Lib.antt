@@ -8,3 +8,4 @@ pub mod All
 pub mod Lists
 pub mod Between
 pub mod Count
+pub mod Made

@@ -18,22 +18,14 @@ use pitch::Lag;
 fn clamped(pitch_gain: i16) -> i16
     ensures { result ≡ Spec.clamped pitch_gain }
 {
-    if pitch_gain < 3277 {
-        3277
-    } else if 13017 < pitch_gain {
-        13017
-    } else {
-        pitch_gain
-    }
+    pitch_gain.clamp(3277, 13017)
 }
 
 fn sharpen_gain(class: usize, g: InterpolationGains) -> i16
     ensures { result ≡ Spec.sharpen_gain class g }
 {
     match class {
-        1 => g.voiced,
-        2 => g.voiced,
-        5 => g.voiced,
+        1 | 2 | 5 => g.voiced,
         _ => g.fixed,
     }
 }
@@ -45,10 +37,9 @@ fn shaped(words: &[i16], innovation: Innovation, lag: Lag, g: InterpolationGains
     ensures { result ≡ Spec.shaped words.now innovation lag g }
 {
     if lag.integer < 80 {
-        let class = innovation.class;
         let mut code = innovation.code;
-        adaptive::sharpen(words, &mut code, lag, sharpen_gain(class, g));
-        return Innovation { code, class };
+        adaptive::sharpen(words, &mut code, lag, sharpen_gain(innovation.class, g));
+        return Innovation { code, ..innovation };
     }
     innovation
 }
@@ -83,13 +74,12 @@ pub fn traced(
     requires { zero_residuals ≡ Levinson.zero_residuals_of params.lpc }
     ensures { result ≡ Spec.traced params gains innovation g samples }
 {
-    let lag = params.lag;
     let lpc = params.lpc;
     let code = innovation.code;
     let next = g.gains;
     Subframe {
         trace: SubframeTrace {
-            lag,
+            lag: params.lag,
             code_class: innovation.class,
             gain_index: params.gain_index,
             pitch_gain: g.pitch_gain,

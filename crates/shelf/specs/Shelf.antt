@@ -6,8 +6,16 @@ use Rattle.image.specs.Image as Image
 use Rattle.image.specs.Image.{SIZE}
 use Rattle.slots.specs.declared.Slot.{Slot}
 use Rattle.slot_users.specs.Users.{SLOTS, free, Decision, refuse, change, of_held, hold_lent, let_go_lent}
-use Rattle.shelf.specs.declared.Fetched.{Fetched}
-use Rattle.shelf.specs.declared.Saved.{Saved}
+
+-- what a save answers: a refusal number, or 0 and the slot that was taken
+pub record Saved : Type 0 where
+  pub number : ℕ
+  pub slot : ℕ
+
+-- what a fetch answers: a refusal number and the all-zero state, or 0 and the state
+pub record Fetched : Type 0 where
+  pub number : ℕ
+  pub state : State
 
 -- how many bytes the images of all slots take
 abbrev pub ROOM : ℕ

@@ -1,13 +1,16 @@
 -- Whether a slot is held, case by case.
-use Rattle.std.specs.Prelude.{ℕ, ◌<◌, ◌≤◌, Bool, List}
-use Rattle.std.proofs.Math.Path.{◌≡◌, refl}
+use Rattle.std.specs.Prelude.{ℕ, ◌<◌, ◌≤◌, ◌≡◌, Bool, cond, List, Option, Some, None, Result, Ok, Err}
+use Rattle.std.proofs.Math.Path.{refl}
 use Rattle.std.proofs.Math.Bool.{true, false}
-use Rattle.std.proofs.Common.{arith}
-use borrow.Author.Tests.{lt-ltb, le-ltb, eq-eqb, ne_eqb, ltb-true, eqb-false}
+use borrow.Author.Tests.{lt-ltb, le-ltb, eq-eqb, ne_eqb, ltb-true, ltb-false, eqb-false}
 use Rattle.std.proofs.Math.Dec.{eqb, ltb}
 use Rattle.slots.specs.declared.Slot.{Slot}
-use Rattle.slot_users.specs.Users.{SLOTS, users, of_held}
-use Rattle.slot_users.specs.ByValue.{held}
+use Rattle.std.proofs.Common.{ap}
+use Rattle.refusal.specs.Numbers as Numbers
+use Rattle.refusal.specs.declared.Refusal.{Refusal}
+use Rattle.refusal.specs.declared.Refusal.TheVariants.{NoSlot}
+use Rattle.slot_users.specs.Users.{SLOTS, users, slot_at, of_held}
+use Rattle.slot_users.specs.ByValue.{held, some_slot}
 
 module _ {A : Type 0} (l : List Slot) (k : ℕ) (refuses : ℕ → A) (a : A) where
   pub held_out : SLOTS ≤ k → of_held l k refuses a ≡ refuses 13
@@ -23,25 +26,43 @@ module _ {A : Type 0} (l : List Slot) (k : ℕ) (refuses : ℕ → A) (a : A) wh
   held_yes h e = rw (lt-ltb k SLOTS h, ne_eqb (users l k) 0 e)
 
 -- what it takes to be held
-pub held_means : (l : List Slot) (k : ℕ) → held l k ≡ true → (k < SLOTS) × (users l k ≡ 0 → ⊥)
+pub held_means : (l : List Slot) (k : ℕ) (s : Slot) → held l k ≡ Ok s → (k < SLOTS) × (s ≡ slot_at l k) × (users l k ≡ 0 → ⊥)
 unfolding of_held
-held_means l k e = by (ltb k SLOTS) (eqb (users l k) 0) refl refl e
+held_means l k s e = by (ltb k SLOTS) (eqb (users l k) 0) refl refl e
   where
-    by : (x y : Bool) → ltb k SLOTS ≡ x → eqb (users l k) 0 ≡ y → held l k ≡ true → (k < SLOTS) × (users l k ≡ 0 → ⊥)
-    by true false p q e = (ltb-true k SLOTS p, eqb-false (users l k) 0 q)
-    by true true p q e = absurd (let f : held l k ≡ false = rw (p, q) in let z : ◌≡◌ {A = ℕ} 0 1 = cc in omega arith)
-    by false y p q e = absurd (let f : held l k ≡ false = rw p in let z : ◌≡◌ {A = ℕ} 0 1 = cc in omega arith)
+    by : (x y : Bool) → ltb k SLOTS ≡ x → eqb (users l k) 0 ≡ y → ◌≡◌ {A = Result Slot Refusal} (cond x (cond y (Err NoSlot) (Ok (slot_at l k))) (Err NoSlot)) (Ok s) → (k < SLOTS) × (s ≡ slot_at l k) × (users l k ≡ 0 → ⊥)
+    by true false p q e = (ltb-true k SLOTS p, cc, eqb-false (users l k) 0 q)
+    by true true p q e = cc
+    by false y p q e = cc
 
--- by the test alone
+-- by the answer alone
 module _ {A : Type 0} (l : List Slot) (k : ℕ) (refuses : ℕ → A) (a : A) where
-  pub not_held : held l k ≡ false → of_held l k refuses a ≡ refuses 13
-  unfolding of_held
-  not_held e = by (ltb k SLOTS) (eqb (users l k) 0) refl refl e
-    where
-      by : (x y : Bool) → ltb k SLOTS ≡ x → eqb (users l k) 0 ≡ y → held l k ≡ false → of_held l k refuses a ≡ refuses 13
-      by false y p q e = rw p
-      by true true p q e = rw (p, q)
-      by true false p q e = absurd (let f : held l k ≡ true = rw (p, q) in let z : ◌≡◌ {A = ℕ} 0 1 = cc in omega arith)
+  pub is_held : (s : Slot) → held l k ≡ Ok s → of_held l k refuses a ≡ a
+  is_held s e = let h = held_means l k s e in held_yes l k refuses a h.0 h.2
 
-  pub is_held : held l k ≡ true → of_held l k refuses a ≡ a
-  is_held e = let h = held_means l k e in held_yes l k refuses a h.0 h.1
+  pub not_held : (r : Refusal) → held l k ≡ Err r → of_held l k refuses a ≡ refuses (Numbers.number r)
+  unfolding of_held
+  not_held r e = by (ltb k SLOTS) (eqb (users l k) 0) refl refl e
+    where
+      of : (x : Refusal) → NoSlot ≡ x → refuses 13 ≡ refuses (Numbers.number x)
+      of x w = ap (λ (y : Refusal). refuses (Numbers.number y)) w
+
+      by : (x y : Bool) → ltb k SLOTS ≡ x → eqb (users l k) 0 ≡ y → ◌≡◌ {A = Result Slot Refusal} (cond x (cond y (Err NoSlot) (Ok (slot_at l k))) (Err NoSlot)) (Err r) → of_held l k refuses a ≡ refuses (Numbers.number r)
+      by true false p q e = cc
+      by true true p q e = rw (p, q) (of r cc)
+      by false y p q e = rw p (of r cc)
+
+-- what it says that there is such a slot, and that there is none
+pub some_means : (n i : ℕ) → some_slot n ≡ Some i → (i ≡ n) × (n < SLOTS)
+some_means n i e = by (ltb n SLOTS) refl e
+  where
+    by : (b : Bool) → ltb n SLOTS ≡ b → ◌≡◌ {A = Option ℕ} (cond b (Some n) None) (Some i) → (i ≡ n) × (n < SLOTS)
+    by true p e = (cc, ltb-true n SLOTS p)
+    by false p e = cc
+
+pub none_means : (n : ℕ) → some_slot n ≡ None → SLOTS ≤ n
+none_means n e = by (ltb n SLOTS) refl e
+  where
+    by : (b : Bool) → ltb n SLOTS ≡ b → ◌≡◌ {A = Option ℕ} (cond b (Some n) None) None → SLOTS ≤ n
+    by true p e = cc
+    by false p e = ltb-false n SLOTS p

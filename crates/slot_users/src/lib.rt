@@ -5,95 +5,70 @@ ghost use Rattle.std.specs.Prelude.{◌≡◌};
 ghost use Rattle.slot_users.specs.Users as Users;
 ghost use Rattle.slot_users.specs.ByValue as ByValue;
 
+use refusal::Refusal;
 use slots::Slot;
 
 // How many records there are.
 pub const SLOTS: usize = 16;
 
-// What is to be done to the records: one is written; past the last, none.
+// What is to be done to the records: one becomes another.
 #[derive(Clone, Copy)]
 pub struct Change {
-    pub number: u8,
     pub at: usize,
     pub slot: Slot,
 }
 
-pub fn refused(number: u8, count: usize) -> Change
-    ensures { result ≡ ByValue.refused number count }
-{
-    Change {
-        number,
-        at: count,
-        slot: Slot { users: 0, frame: 0 },
-    }
-}
-
-// Whether the slot is one of the sixteen, and has users.
-pub fn held(slots: [Slot; 16], slot: u32) -> bool
+// The record of a slot that is one of the sixteen, and has users.
+pub fn held(slots: [Slot; 16], slot: u32) -> Result<Slot, Refusal>
     ensures { result ≡ ByValue.held slots slot }
 {
     if 15 < slot {
-        return false;
+        return Err(Refusal::NoSlot);
     }
-    let k = slot as usize;
-    let s = slots[k];
-    if s.users == 0 { false } else { true }
+    let s = slots[slot as usize];
+    if s.users == 0 {
+        Err(Refusal::NoSlot)
+    } else {
+        Ok(s)
+    }
 }
 
 // A user more, to 255.
-pub fn holding(slots: [Slot; 16], slot: u32) -> Change
-    ensures { result ≡ ByValue.change Users.SLOTS (Users.hold_lent slots slot) }
+pub fn holding(slots: [Slot; 16], slot: u32) -> Result<Change, Refusal>
+    ensures { ByValue.decided result ≡ Users.hold_lent slots slot }
 {
-    if !held(slots, slot) {
-        return refused(13, SLOTS);
-    }
-    let k = slot as usize;
-    let s = slots[k];
+    let s = held(slots, slot)?;
     if s.users == 255 {
-        return refused(14, SLOTS);
+        return Err(Refusal::SlotFull);
     }
     let more = Slot {
         users: s.users + 1,
         frame: s.frame,
     };
-    Change {
-        number: 0,
-        at: k,
+    Ok(Change {
+        at: slot as usize,
         slot: more,
-    }
+    })
 }
 
 // A user fewer.
-pub fn letting_go(slots: [Slot; 16], slot: u32) -> Change
-    ensures { result ≡ ByValue.change Users.SLOTS (Users.let_go_lent slots slot) }
+pub fn letting_go(slots: [Slot; 16], slot: u32) -> Result<Change, Refusal>
+    ensures { ByValue.decided result ≡ Users.let_go_lent slots slot }
 {
-    if !held(slots, slot) {
-        return refused(13, SLOTS);
-    }
-    let k = slot as usize;
-    let s = slots[k];
+    let s = held(slots, slot)?;
     let fewer = Slot {
         users: s.users - 1,
         frame: s.frame,
     };
-    Change {
-        number: 0,
-        at: k,
+    Ok(Change {
+        at: slot as usize,
         slot: fewer,
-    }
+    })
 }
 
-// The lowest slot without users, or 16.
-pub fn free(slots: [Slot; 16]) -> usize
-    ensures { result ≡ Users.free slots }
+// The lowest slot without users.
+pub fn free(slots: [Slot; 16]) -> Option<usize>
+    ensures { result ≡ ByValue.some_slot (Users.free slots) }
 {
-    let mut k = 0;
-    while k < SLOTS {
-        let s = slots[k];
-        if s.users == 0 {
-            return k;
-        }
-        k += 1;
-    }
-    k
+    slots.iter().position(|s| s.users == 0)
 }

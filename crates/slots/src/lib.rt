@@ -1,8 +1,10 @@
-// Slot records, lent as a slice of small structs: sixteen are read by value, and one is written. No other function touches a record behind a reference.
+// Slot records, lent as a slice of small structs: sixteen are read by value, and one is written.
 #![tactic(auto)]
 
-ghost use Rattle.std.specs.Prelude.{◌≡◌, ◌<◌, set};
-ghost use Rattle.slots.specs.Slots.{begun, turns, noted, shown};
+ghost use Rattle.std.specs.Prelude.{◌≡◌, set};
+ghost use Rattle.slots.specs.Slots.{shown};
+
+use std::array;
 
 // How many use the state that is saved there, and the number of the frame that it is decoded with next: at 90,000 frames an hour 32 bits are five years of a call.
 #[derive(Clone, Copy)]
@@ -11,53 +13,14 @@ pub struct Slot {
     pub frame: u32,
 }
 
-// How many records were lent, and the sixteen, all zero where there were not as many.
-#[derive(Clone, Copy)]
-pub struct Records {
-    pub count: usize,
-    pub slots: [Slot; 16],
-}
-
-// Before any is read.
-fn begun(count: usize) -> Records
-    ensures { result ≡ begun count }
-{
-    let none = Slot { users: 0, frame: 0 };
-    Records {
-        count,
-        slots: [none; 16],
-    }
-}
-
-// How many of so many records are read.
-fn turns(count: usize) -> usize
-    ensures { result ≡ turns count }
-{
-    if count == 16 { 16 } else { 0 }
-}
-
-// With record i as it was read.
-fn noted(r: Records, i: usize, s: Slot) -> Records
-    requires { i < 16 }
-    ensures { result ≡ noted r i s }
-{
-    let mut q = r;
-    q.slots[i] = s;
-    q
-}
-
-// All that is to be known of the records, by value.
-pub fn shown(slots: &[Slot]) -> Records
+// The sixteen, or none where there are not as many.
+pub fn shown(slots: &[Slot]) -> Option<[Slot; 16]>
     ensures { result ≡ shown slots.now }
 {
-    let mut r = begun(slots.len());
-    let n = turns(slots.len());
-    let mut i = 0;
-    while i < n {
-        r = noted(r, i, slots[i]);
-        i += 1;
+    if slots.len() != 16 {
+        return None;
     }
-    r
+    Some(array::from_fn(|k| slots[k]))
 }
 
 // One record is written; past the last nothing is.

@@ -1,37 +1,44 @@
 -- What is left and said of a save, and what `play` leaves to play.
-use Prim.Native.Nat.{ℕ}
-use mathlib.Core.Path.{◌≡◌, refl, sym, ap, ◌∙◌}
-use mathlib.Core.List.{List}
-use borrow.Author.Tests.{eq-eqb, ne_eqb}
+use Rattle.std.specs.Prelude.{ℕ, ◌≡◌, List, Result, Ok, Err}
+use Rattle.std.proofs.Common.{refl, sym, ap, ◌∙◌, ne_eqb}
+use Rattle.refusal.specs.declared.Refusal.{Refusal}
+use Rattle.refusal.specs.Numbers.{number_not_0}
 use Rattle.stream.specs.Decimal.{figure}
+use Rattle.state.specs.declared.State.{State}
 use Rattle.slots.specs.declared.Slot.{Slot}
-use Rattle.shelf.specs.declared.Saved.{Saved}
-use Rattle.shelf.specs.Shelf.{SaveDone}
+use Rattle.shelf.specs.Shelf.{Saved, SaveDone}
+use Rattle.shelf.specs.Answers.{saved}
 use Rattle.shelf.specs.Run.{Shelf, after}
 use Rattle.places.specs.Places.{At}
-use Rattle.seek.specs.declared.Sought.{Sought}
+use Rattle.seek.specs.Seek.{answer}
 use Rattle.replies.specs.declared.Cue.{Cue}
-use Rattle.replies.specs.Replies.{saved_word, answered, answered_yes, answered_no, save_left, save_said}
+use Rattle.replies.specs.Replies.{saved_word, refused, answer_line, answered, answered_yes, answered_no, save_left, save_said}
 use Rattle.replies.specs.Promised.{silence, ahead, ahead_of, cued, Put, Quiet, put_as}
 
 -- ---- a save
-module _ (s : Sought) (h : Shelf) (k : ℕ) (room now : List ℕ) (cue : Cue) (n : ℕ) (quiet : cue ≡ silence) where
-  pub not_kept : (name : List ℕ) (v : ℕ) → (s.number ≡ 0 → ⊥) → Put (answered s.number (figure name v)) room n now → Quiet (save_left h k s).slots (save_said h k s) room (record { slots = h.slots; cue = cue; n = n }) now × (h.images ≡ (save_left h k s).images)
+module _ (h : Shelf) (k : ℕ) (room now : List ℕ) (cue : Cue) (n : ℕ) (quiet : cue ≡ silence) where
+  pub not_kept : (r : Refusal) → Put (refused r) room n now → Quiet (save_left h k (answer (Err r))).slots (save_said h k (answer (Err r))) room (record { slots = h.slots; cue = cue; n = n }) now × (h.images ≡ (save_left h k (answer (Err r))).images)
   unfolding save_left save_said
-  not_kept name v z p =
-      rw (ne_eqb s.number 0 z) (record { slots = refl; silent = quiet; put = put_as (answered_no s.number _ z ∙ sym (answered_no s.number (figure name v) z)) p }, refl)
+  not_kept r p =
+      rw (ne_eqb _ 0 (number_not_0 r)) (record { slots = refl; silent = quiet; put = put_as (answered_no _ _ (number_not_0 r)) p }, refl)
 
-  pub is_kept_lem : (a : Saved) (l : List Slot) (m : List ℕ) → s.number ≡ 0 → SaveDone h.slots h.images s.state k a l m → Put (answered a.number (figure saved_word a.slot)) room n now → Quiet (save_left h k s).slots (save_said h k s) room (record { slots = l; cue = cue; n = n }) now × (m ≡ (save_left h k s).images)
+  -- a save's answer as its line
+  line : (a : Result ℕ Refusal) (x : Saved) → saved a ≡ x → answered x.number (figure saved_word x.slot) ≡ answer_line saved_word a
+  line a x e = ap (λ (y : Saved). answered y.number (figure saved_word y.slot)) (sym e) ∙ by a
+    where
+      by : (b : Result ℕ Refusal) → answered (saved b).number (figure saved_word (saved b).slot) ≡ answer_line saved_word b
+      by (Ok v) = answered_yes 0 _ refl
+      by (Err r) = answered_no _ _ (number_not_0 r)
+
+  pub is_kept : (s : State) (a : Result ℕ Refusal) (l : List Slot) (m : List ℕ) → SaveDone h.slots h.images s k (saved a) l m → Put (answer_line saved_word a) room n now → Quiet (save_left h k (answer (Ok s))).slots (save_said h k (answer (Ok s))) room (record { slots = l; cue = cue; n = n }) now × (m ≡ (save_left h k (answer (Ok s))).images)
   unfolding save_left save_said after
-  is_kept_lem a l m z d p =
-      let e = d.answer in
-      rw (eq-eqb s.number 0 z) (record { slots = d.slots; silent = quiet; put = put_as (answered_yes s.number _ z ∙ ap (λ (x : Saved). answered x.number (figure saved_word x.slot)) (sym e)) p }, d.images)
+  is_kept s a l m d p = (record { slots = d.slots; silent = quiet; put = put_as (answered_yes 0 _ refl ∙ line a _ d.answer) p }, d.images)
 
 -- ---- what `play` leaves to play
-pub cues_none : (recording : List ℕ) (s : Sought) (k n : ℕ) (cue : Cue) → (s.number ≡ 0 → ⊥) → cue ≡ silence → ahead_of recording cue ≡ cued recording s k n
+pub cues_none : (recording : List ℕ) (r : Refusal) (k n : ℕ) (cue : Cue) → cue ≡ silence → ahead_of recording cue ≡ cued recording (answer (Err r)) k n
 unfolding cued ahead
-cues_none recording s k n cue z e = rw (ne_eqb s.number 0 z, e)
+cues_none recording r k n cue e = rw (ne_eqb _ 0 (number_not_0 r), e)
 
-pub cues_some : (recording : List ℕ) (s : Sought) (k n a : ℕ) → s.number ≡ 0 → At recording a k → ahead_of recording (record { state = s.state; place = a; left = n }) ≡ cued recording s k n
+pub cues_some : (recording : List ℕ) (s : State) (k n a : ℕ) → At recording a k → ahead_of recording (record { state = s; place = a; left = n }) ≡ cued recording (answer (Ok s)) k n
 unfolding cued ahead
-cues_some recording s k n a z at = rw (eq-eqb s.number 0 z, at.left)
+cues_some recording s k n a at = rw at.left

@@ -2,41 +2,47 @@
 #![tactic(auto)]
 
 ghost use Rattle.std.specs.Prelude.{◌≡◌, [], ◌≤◌, length};
+ghost use Rattle.seek.specs.Seek as Seek;
 ghost use Rattle.replies.specs.Replies as Replies;
 ghost use Rattle.replies.specs.Promised as Promised;
 
+use refusal::Refusal;
 use replies::{Cue, Obeyed};
-use seek::Sought;
 use slots::Slot;
+use state::State;
 
 // A state is saved, or the refusal of what was looked for is told.
-pub fn keep(s: Sought, slots: [Slot; 16], images: &mut [u8], k: u32, room: &mut [u8]) -> Obeyed
+pub fn keep(
+    s: Result<State, Refusal>,
+    mut slots: [Slot; 16],
+    images: &mut [u8],
+    k: u32,
+    room: &mut [u8],
+) -> Obeyed
     requires { 64 ≤ length room.old }
-    ensures quiet { Promised.Quiet (Replies.save_left (Promised.shelf slots images.old) k s).slots (Replies.save_said (Promised.shelf slots images.old) k s) room.old result room.new }
-    ensures images_after { images.new ≡ (Replies.save_left (Promised.shelf slots images.old) k s).images }
+    ensures quiet { Promised.Quiet (Replies.save_left (Promised.shelf slots images.old) k (Seek.answer s)).slots (Replies.save_said (Promised.shelf slots images.old) k (Seek.answer s)) room.old result room.new }
+    ensures images_after { images.new ≡ (Replies.save_left (Promised.shelf slots images.old) k (Seek.answer s)).images }
 {
-    let number = s.number;
-    if number != 0 {
-        return Obeyed {
+    match s {
+        Ok(state) => {
+            let answer = shelf::save(&mut slots, images, state, k);
+            Obeyed {
+                slots,
+                cue: replies::silence(),
+                n: replies::put_result(answer, b"saved ", room),
+            }
+        }
+        Err(why) => Obeyed {
             slots,
             cue: replies::silence(),
-            n: replies::put_answer(number, b"saved ", 0, room),
-        };
-    }
-    let state = s.state;
-    let a = shelf::save_by_value(slots, images, state, k);
-    let answer = a.answer;
-    let after = a.slots;
-    Obeyed {
-        slots: after,
-        cue: replies::silence(),
-        n: replies::put_answer(answer.number, b"saved ", answer.slot, room),
+            n: replies::put_result(Err(why), b"saved ", room),
+        },
     }
 }
 
 // `play K N`, of what was found: the frames are left to play.
 pub fn begin_play(
-    s: Sought,
+    s: Result<State, Refusal>,
     slots: [Slot; 16],
     recording: &[u8],
     k: u32,
@@ -44,24 +50,22 @@ pub fn begin_play(
     room: &mut [u8],
 ) -> Obeyed
     requires { 64 ≤ length room.old }
-    ensures { Promised.Cues slots recording.now (Promised.cued recording.now s k n) (Replies.answered s.number []) room.old result room.new }
+    ensures { Promised.Cues slots recording.now (Promised.cued recording.now (Seek.answer s) k n) (Replies.answered (Seek.answer s).number []) room.old result room.new }
 {
-    let number = s.number;
-    if number != 0 {
-        return Obeyed {
+    match s {
+        Ok(state) => Obeyed {
+            slots,
+            cue: Cue {
+                state,
+                place: places::place_of(recording, k),
+                left: n,
+            },
+            n: 0,
+        },
+        Err(why) => Obeyed {
             slots,
             cue: replies::silence(),
-            n: replies::put_answer(number, b"frame ", 0, room),
-        };
-    }
-    let state = s.state;
-    Obeyed {
-        slots,
-        cue: Cue {
-            state,
-            place: places::place_of(recording, k),
-            left: n,
+            n: replies::put_refused(why, room),
         },
-        n: 0,
     }
 }

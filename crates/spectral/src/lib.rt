@@ -1,11 +1,11 @@
 // The line spectral frequencies of a half frame: the residual, the history of three residuals that they are predicted from, and how they are quantised.
 #![tactic(auto)]
 
-ghost use Rattle.std.specs.Prelude.{◌≡◌, ◌<◌, cond, length};
-ghost use Rattle.std.specs.Int.Signed.{le_z};
+ghost use Rattle.std.specs.Prelude.{◌≡◌, ◌<◌, length};
 ghost use Rattle.tables.specs.Places.{WORDS, BYTES};
-ghost use Rattle.spectral.specs.Pushed.{pushed_at};
 ghost use Rattle.spectral.specs.Spectral as Spectral;
+
+use std::array;
 
 // A word of the mean, at place k of a history.
 fn initial_at(words: &[i16], k: usize) -> f32
@@ -21,13 +21,7 @@ pub fn initial(words: &[i16]) -> [f32; 30]
     requires { length words.now ≡ WORDS }
     ensures { result ≡ Spectral.initial words.now }
 {
-    let mut out = [0.0f32; 30];
-    let mut k = 0usize;
-    while k < 30 {
-        out[k] = initial_at(words, k);
-        k += 1;
-    }
-    out
+    array::from_fn(|k| initial_at(words, k))
 }
 
 // The second stage's float for place k: five places each from two codebooks.
@@ -63,21 +57,7 @@ pub fn residual(words: &[i16], bytes: &[u8], stage1: usize, low: usize, high: us
     requires fact_3 { (stage1 < 128) × (low < 64) × (high < 64) }
     ensures { result ≡ Spectral.residual words.now bytes.now stage1 low high }
 {
-    let mut out = [0.0f32; 10];
-    let mut k = 0usize;
-    while k < 10 {
-        out[k] = residual_at(words, bytes, stage1, low, high, k);
-        k += 1;
-    }
-    out
-}
-
-// Place k of the history with a residual before it.
-fn pushed_at(history: &[f32; 30], residual: &[f32; 10], k: usize) -> f32
-    requires { k < 30 }
-    ensures { result ≡ pushed_at history.now residual.now k }
-{
-    if k < 10 { residual[k] } else { history[k - 10] }
+    array::from_fn(|k| residual_at(words, bytes, stage1, low, high, k))
 }
 
 // The history with a residual before it: its last ten are dropped.
@@ -85,19 +65,9 @@ pub fn push(history: [f32; 30], residual: [f32; 10]) -> [f32; 30]
     ensures { result ≡ Spectral.push history residual }
 {
     let mut out = [0.0f32; 30];
-    let mut k = 0usize;
-    while k < 30 {
-        out[k] = pushed_at(&history, &residual, k);
-        k += 1;
-    }
+    out[..10].copy_from_slice(&residual);
+    out[10..].copy_from_slice(&history[..20]);
     out
-}
-
-// The larger of two.
-fn larger_of(a: i16, b: i16) -> i16
-    ensures { result ≡ cond (le_z b a) a b }
-{
-    if a >= b { a } else { b }
 }
 
 // Each rounded, a tie to the even number, and brought to 0..=25682, but never below the one before it.
@@ -106,11 +76,9 @@ pub fn quantise_lsf(lsf: [f32; 10]) -> [i16; 10]
 {
     let mut out = [0i16; 10];
     let mut prior = 0i16;
-    let mut k = 0usize;
-    while k < 10 {
-        prior = larger_of(floats::quantise(25682, lsf[k]), prior);
+    for k in 0..10 {
+        prior = floats::quantise(25682, lsf[k]).max(prior);
         out[k] = prior;
-        k += 1;
     }
     out
 }

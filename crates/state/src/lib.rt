@@ -1,13 +1,16 @@
 // The decoder's state, handed in and handed back whole: its rule, where a call starts, and a frame that was missed.
 #![tactic(auto)]
 
-ghost use Rattle.std.specs.Prelude.{◌≡◌, ◌&&◌, leb, length};
+ghost use Rattle.std.specs.Prelude.{◌≡◌, length};
+ghost use Rattle.refusal.specs.Numbers as Numbers;
 ghost use Rattle.sequence.specs.All.{all};
 ghost use Rattle.floats.specs.Floats.{within};
 ghost use Rattle.tables.specs.Places.{WORDS, BYTES};
 ghost use Rattle.tables.specs.Tables.{check};
 ghost use Rattle.state.specs.State.{all_zero, marked, obeys, fault, lsp_mean, initial, started, reset, cold_start, missed_frame};
 
+use refusal::Refusal;
+use std::array;
 use tables::Fault;
 
 // All that a decoder carries from frame to frame: what the halves carry on, the residuals, the gain history, the mark, and how sure its excitation is.
@@ -58,51 +61,30 @@ pub fn all_zero() -> State
 pub fn marked(state: State, mark: u8, sure: u8) -> State
     ensures { result ≡ marked state mark sure }
 {
-    let mut s = state;
-    s.mark = mark;
-    s.sure = sure;
-    s
+    State {
+        mark,
+        sure,
+        ..state
+    }
 }
 
 // Whether each is finite and within 131,072.
 fn all_within(floats: &[f32]) -> bool
     ensures { result ≡ all (within 131072) floats.now }
 {
-    let mut i = 0;
-    while i < floats.len() {
-        if floats::within(131072, floats[i]) {
-            i += 1;
-        } else {
-            return false;
-        }
-    }
-    true
-}
-
-// Whether the last two numbers are within theirs.
-fn both_small(mark: u8, sure: u8) -> bool
-    ensures { result ≡ (leb mark 2 && leb sure 2) }
-{
-    if mark > 2 {
-        return false;
-    }
-    sure <= 2
+    floats.iter().all(|x| floats::within(131072, *x))
 }
 
 // The state rule.
+#[tactic(auto, unfolding(crate::specs::State::obeys))]
 pub fn obeys(state: State) -> bool
     ensures { result ≡ obeys state }
 {
-    if !all_within(&state.residuals) {
-        return false;
-    }
-    if !all_within(&state.gains) {
-        return false;
-    }
-    both_small(state.mark, state.sure)
+    all_within(&state.residuals) && all_within(&state.gains) && state.mark <= 2 && state.sure <= 2
 }
 
 // Which set rule is broken and where: the set is looked through again, where it was refused with 4 and nowhere else.
+// A number and no Refusal: it takes any, and a narrower type would ask more of its callers.
 pub fn fault(number: u8, words: &[i16], bytes: &[u8]) -> Fault
     requires { number ≡ 4 → check words.now bytes.now ≡ 4 }
     ensures { result ≡ fault number words.now bytes.now }
@@ -118,13 +100,7 @@ fn lsp_mean(words: &[i16]) -> [i16; 10]
     requires { length words.now ≡ WORDS }
     ensures { result ≡ lsp_mean words.now }
 {
-    let mut lsp = [0i16; 10];
-    let mut k = 0;
-    while k < 10 {
-        lsp[k] = tables::word(words, tables::LSP_MEAN + k);
-        k += 1;
-    }
-    lsp
+    array::from_fn(|k| tables::word(words, tables::LSP_MEAN + k))
 }
 
 // The state that a call starts from.
@@ -155,21 +131,23 @@ fn initial(words: &[i16], bytes: &[u8], mark: u8) -> State
 fn started(words: &[i16], bytes: &[u8], mark: u8) -> Returned
     ensures { result ≡ started words.now bytes.now mark }
 {
-    let number = rules::check(words, bytes);
-    if number != 0 {
-        let told = fault(number, words, bytes);
-        return Returned {
-            number,
-            rule: told.rule,
-            place: told.place,
-            state: all_zero(),
-        };
-    }
-    Returned {
-        number: 0,
-        rule: 0,
-        place: 0,
-        state: initial(words, bytes, mark),
+    match rules::check(words, bytes) {
+        Ok(()) => Returned {
+            number: 0,
+            rule: 0,
+            place: 0,
+            state: initial(words, bytes, mark),
+        },
+        Err(why) => {
+            let number = why.number();
+            let told = fault(number, words, bytes);
+            Returned {
+                number,
+                rule: told.rule,
+                place: told.place,
+                state: all_zero(),
+            }
+        }
     }
 }
 
@@ -188,22 +166,18 @@ pub fn cold_start(words: &[i16], bytes: &[u8]) -> Returned
 }
 
 // The state with mark 0 and sure 0, and 5 where it does not obey the state rule.
+#[tactic(auto, unfolding(crate::specs::State::missed_frame))]
 pub fn missed_frame(state: State) -> Returned
     ensures { result ≡ missed_frame state }
 {
-    let s = marked(state, 0, 0);
-    if obeys(state) {
-        return Returned {
-            number: 0,
-            rule: 0,
-            place: 0,
-            state: s,
-        };
-    }
     Returned {
-        number: 5,
+        number: if obeys(state) {
+            0
+        } else {
+            Refusal::StateRule.number()
+        },
         rule: 0,
         place: 0,
-        state: s,
+        state: marked(state, 0, 0),
     }
 }

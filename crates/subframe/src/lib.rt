@@ -49,14 +49,20 @@ pub fn decode_subframe(
     ensures room { exc.new ≡ Spec.excited_by words.now exc.old start result.subframe.trace }
     ensures counts { result.counts ≡ Spec.counts_by words.now exc.old start result.subframe.trace }
 {
-    let lpc = params.lpc;
-    let reflection = levinson::reflection_coefficients(lpc);
+    let reflection = levinson::reflection_coefficients(params.lpc);
     let k = reflection.coefficients;
     let i = innovation(words, params, k[0], sharpen_fixed, last_half_lag);
     let code = i.code;
     let g = gain_state::decode(bytes, gains, params.gain_index, &code);
-    let lag = params.lag;
-    let counts = excite(words, exc, start, lag, g.pitch_gain, g.code_gain, &code);
+    let counts = excite(
+        words,
+        exc,
+        start,
+        params.lag,
+        g.pitch_gain,
+        g.code_gain,
+        &code,
+    );
     let samples = part(&exc[..], start);
     let subframe = traced(params, gains, i, g, samples, reflection.zero_residuals);
     Counted { subframe, counts }

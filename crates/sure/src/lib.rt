@@ -5,6 +5,7 @@ ghost use Rattle.std.specs.Prelude.{◌≡◌};
 ghost use Rattle.sure.specs.Sure as Spec;
 
 // What a frame leaves of the number, and for each subframe whether it holds there, 0 or 1.
+// Numbers, and no bools: the theorems on excitation that is sure again (after_same of AgainFrame) and the reports are stated with 1.
 #[derive(Clone, Copy)]
 pub struct Sure {
     pub left: u8,
@@ -16,19 +17,19 @@ fn surer(w: u8, gain: i16) -> u8
     ensures { result ≡ Spec.surer w gain }
 {
     if w >= 2 {
-        return 2;
+        2
+    } else if gain == 0 {
+        w + 1
+    } else {
+        0
     }
-    if gain == 0 {
-        return w + 1;
-    }
-    0
 }
 
 // Whether it holds.
 fn holds(w: u8) -> u8
     ensures { result ≡ Spec.holds w }
 {
-    if w < 2 { 0 } else { 1 }
+    u8::from(w >= 2)
 }
 
 // The number through four subframes.
@@ -50,10 +51,11 @@ pub fn after(mark: u8, w: u8, gains: [i16; 4]) -> Sure
     ensures { result ≡ Spec.after mark w gains }
 {
     if mark < 2 {
-        return Sure {
+        Sure {
             left: 0,
             subframes: [0; 4],
-        };
+        }
+    } else {
+        through(w, gains)
     }
-    through(w, gains)
 }

@@ -7,8 +7,7 @@ ghost use Rattle.sequence.specs.Table.{table};
 ghost use Rattle.fixed.specs.Fixed as Fixed;
 ghost use Rattle.synth.specs.Synth as Synth;
 
-use fixed::{clips, ends, hi, one, sat};
-use slices::copy;
+use fixed::{clips, ends, hi, sat};
 use synthesis_sum::sum;
 
 // The filter over a block of at most 80 samples: mem is the ten outputs before it, and then the last ten. What is saturated for each output is kept.
@@ -20,20 +19,18 @@ fn filter(a: &[i16], input: &[i16], output: &mut [i16], mem: &mut [i16], sums: &
     ensures sums { sums.new ≡ table (λ (n : ℕ). Synth.sum a.now (drop n (Synth.window a.now mem.old input.now n)) (get_or input.now n (pos 0))) (length input.now) }
 {
     let mut window = [0i16; 90];
-    copy(&mut window[..10], &mem[..]);
+    window[..10].copy_from_slice(mem);
     let count = input.len();
-    let mut n = 0;
-    while n < count {
+    for n in 0..count {
         let end = n + 10;
         let v = sum(a, &window[n..end], input[n]);
         let y = hi(sat(v));
         window[end] = y;
         output[n] = y;
         sums[n] = v;
-        n += 1;
     }
     let last = count + 10;
-    copy(&mut mem[..], &window[count..last]);
+    mem.copy_from_slice(&window[count..last]);
 }
 
 // How many of a block's sums saturation changes.
@@ -42,8 +39,8 @@ fn changed(sums: &[i64]) -> u8
     ensures { result ≡ count (λ (n : ℕ). Fixed.clips (get_or sums.now n (pos 0))) (length sums.now) }
 {
     let mut clipped = 0u8;
-    for n in 0..sums.len() {
-        clipped += one(clips(sums[n]));
+    for sum in sums {
+        clipped += u8::from(clips(*sum));
     }
     clipped
 }

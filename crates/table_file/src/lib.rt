@@ -2,12 +2,14 @@
 #![tactic(auto)]
 
 ghost use Rattle.std.specs.Prelude.{◌≡◌, ◌+◌, ◌*◌, ◌≤◌, ◌<◌, length};
+ghost use Rattle.refusal.specs.Numbers.{told};
 ghost use Rattle.tables.specs.Places.{WORDS};
 ghost use Rattle.stream.specs.Room.{over};
 ghost use Rattle.hex_lines.specs.Text as Text;
 ghost use Rattle.table_file.specs.File as File;
 
 use hex_lines::digit;
+use refusal::Refusal;
 use tables::Fault;
 
 // The one line of a refused table file, with the rule and the place that are named. The answer is its length.
@@ -33,12 +35,7 @@ pub fn put_tables_refused(number: u8, told: Fault, out: &mut [u8]) -> usize
 fn word(low: u8, high: u8) -> i16
     ensures { result ≡ File.signed (low + 256 * high) }
 {
-    let n = (low as u16) + 256 * (high as u16);
-    if n < 32768 {
-        n as i16
-    } else {
-        -1 - ((65535 - n) as i16)
-    }
+    i16::from_le_bytes([low, high])
 }
 
 fn put_words(file: &[u8], words: &mut [i16])
@@ -46,21 +43,19 @@ fn put_words(file: &[u8], words: &mut [i16])
     requires fact_2 { length words.old ≡ WORDS }
     ensures { words.new ≡ File.words file.now }
 {
-    let mut k = 0;
-    while k < 5963 {
+    for k in 0..5963 {
         words[k] = word(file[2 * k], file[2 * k + 1]);
-        k += 1;
     }
 }
 
-// The table file's refusal number, and its words, which a file of another length leaves as they were.
-pub fn check_file(file: &[u8], words: &mut [i16]) -> u8
+// What the table file is refused with, and its words, which a file of another length leaves as they were.
+pub fn check_file(file: &[u8], words: &mut [i16]) -> Result<(), Refusal>
     requires { length words.old ≡ WORDS }
-    ensures number { result ≡ File.check_file file.now }
+    ensures number { told result ≡ File.check_file file.now }
     ensures words { words.new ≡ File.words_or file.now words.old }
 {
     if file.len() != 15834 {
-        return 1;
+        return Err(Refusal::TablesLength);
     }
     put_words(file, words);
     rules::check(words, &file[11926..])

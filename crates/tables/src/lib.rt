@@ -1,4 +1,4 @@
-// The lent table set: places by name, and readers.
+// The lent table set: places by name, and readers. It stays two slices: the C interface lends them so, and a reader takes the one that it reads.
 #![tactic(auto)]
 
 ghost use Rattle.std.specs.Prelude.{◌≡◌, ◌+◌, ◌*◌, ◌<◌, length};
@@ -109,23 +109,12 @@ pub fn word(words: &[i16], at: usize) -> i16
     words[at]
 }
 
-// A word's bits, read without a sign.
-fn unsigned(x: i16) -> u16
-    ensures { result ≡ Tables.unsigned x }
-{
-    if 0 <= x {
-        x as u16
-    } else {
-        65535 - ((-1 - x) as u16)
-    }
-}
-
 // The word at a place, read without a sign.
 pub fn unsigned_word(words: &[i16], at: usize) -> u16
     requires { at < length words.now }
     ensures { result ≡ Tables.unsigned_word words.now at }
 {
-    unsigned(words[at])
+    words[at].cast_unsigned()
 }
 
 // The f32 readers of config.rs. The pitch gain of a gain index.

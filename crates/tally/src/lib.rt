@@ -44,40 +44,37 @@ pub struct Tally {
 }
 
 // So many more, up to the same top.
+#[tactic(auto, unfolding(crate::specs::Carried::plus))]
 fn plus(n: u64, k: u8) -> u64
     ensures { result ≡ Carried.plus n k }
 {
-    let m = k as u64;
-    if n < u64::MAX - m { n + m } else { u64::MAX }
+    n.saturating_add(u64::from(k))
 }
 
 // Where a lag is counted; there is no place 126.
+#[tactic(auto, unfolding(crate::specs::Carried::lag_place, crate::specs::Figures::lag_of))]
 pub fn lag_place(lag: i16) -> usize
     ensures { result ≡ Carried.lag_place lag }
 {
-    if lag < 19 {
-        return 126;
-    }
-    lag as usize - 19
+    if lag < 19 { 126 } else { lag as usize - 19 }
 }
 
 pub fn larger(a: u64, b: u64) -> u64
     ensures { result ≡ Carried.larger a b }
 {
-    if a < b { b } else { a }
+    a.max(b)
 }
 
 // The smallest of n numbers and one more: the first is the smallest of itself.
+#[tactic(auto, unfolding(crate::specs::Carried::smaller))]
 pub fn smaller(n: u64, a: u64, b: u64) -> u64
     ensures { result ≡ Carried.smaller n a b }
 {
-    if n == 0 {
-        return b;
-    }
-    if a < b { a } else { b }
+    if n == 0 { b } else { a.min(b) }
 }
 
 // What was clipped in a subframe more.
+#[tactic(auto, unfolding(crate::specs::Carried::added))]
 pub fn added(t: Clippings, c: Clipped) -> Clippings
     ensures { result ≡ Carried.added t c }
 {
@@ -90,6 +87,7 @@ pub fn added(t: Clippings, c: Clipped) -> Clippings
 }
 
 // Whether so many lines were counted that reading stops.
+#[tactic(auto, unfolding(crate::specs::Figures::full))]
 pub fn full(tally: Tally) -> bool
     ensures { result ≡ Figures.full tally }
 {

@@ -106,19 +106,16 @@ fn take_in(words: &[i16], bytes: &[u8], recorder: Recorder, chunk: &[u8]) -> Rec
     let mut state = recorder.state;
     let mut line = recorder.line;
     let mut tally = recorder.tally;
-    let mut i = 0;
-    while i < chunk.len() {
-        let b = chunk[i];
-        i += 1;
-        if b == b'\n' {
-            let place = end_line(words, bytes, first, state, line, tally);
-            first = place.first;
-            state = place.state;
-            tally = place.tally;
-            line = hex_lines::empty();
-        } else {
-            line = hex_lines::push(line, b);
+    for b in chunk {
+        if *b != b'\n' {
+            line = hex_lines::push(line, *b);
+            continue;
         }
+        let place = end_line(words, bytes, first, state, line, tally);
+        first = place.first;
+        state = place.state;
+        tally = place.tally;
+        line = hex_lines::empty();
     }
     Recorder {
         first,

@@ -1,2 +1,1 @@
-mod Put
 mod Rows

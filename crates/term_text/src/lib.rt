@@ -2,98 +2,101 @@
 #![tactic(auto)]
 
 ghost use Rattle.std.specs.Prelude.{◌≡◌, ◌+◌, ◌*◌, ◌≤◌, length};
-ghost use Rattle.std.proofs.lemmas.List.Edits.{sets};
 ghost use Rattle.io.specs.Counts.{IsPrefixLen};
 ghost use Rattle.stream.specs.Room.{over};
+ghost use Rattle.writer.specs.Wrote.{Wrote};
 ghost use Rattle.term_text.specs.Report as Report;
 
 use tally::{Clippings, Subframes, Tally};
+use writer::Writer;
 
 // A line of a name and two numbers.
-fn put_row(name: &[u8], k: u64, value: u64, n: usize, room: &mut [u8]) -> usize
-    requires { n + length name.now + 42 ≤ length room.old }
-    ensures next { result ≡ n + length (Report.row name.now k value) }
-    ensures text { room.new ≡ sets room.old n (Report.row name.now k value) }
+fn put_row(out: &mut Writer, name: &[u8], k: u64, value: u64)
+    requires { out.old.n + length name.now + 42 ≤ length out.old.room.now }
+    ensures wrote { Wrote out.old out.new (Report.row name.now k value) }
+    ensures fits { out.new.n ≤ out.old.n + length name.now + 42 }
 {
-    let a = stream::put_at(name, n, room);
-    let b = stream::put_decimal(k, a, room);
-    stream::put_figure(b" ", value, b, room)
+    out.put(name);
+    out.put_decimal(k);
+    out.put_figure(b" ", value);
 }
 
 // A row for each count, the first being that of number from.
-fn put_rows(name: &[u8], from: u64, counts: &[u64], n: usize, room: &mut [u8]) -> usize
-    requires fact_1 { length name.now ≤ 11 }
-    requires fact_2 { from + length counts.now ≤ 1000 }
-    requires fact_3 { n + 53 * length counts.now ≤ length room.old }
-    ensures next { result ≡ n + length (Report.rows name.now from counts.now) }
-    ensures text { room.new ≡ sets room.old n (Report.rows name.now from counts.now) }
+fn put_rows(out: &mut Writer, name: &[u8], from: u64, counts: &[u64])
+    requires name { length name.now ≤ 11 }
+    requires counts { from + length counts.now ≤ 1000 }
+    requires room { out.old.n + 53 * length counts.now ≤ length out.old.room.now }
+    ensures wrote { Wrote out.old out.new (Report.rows name.now from counts.now) }
+    ensures fits { out.new.n ≤ out.old.n + 53 * length counts.now }
 {
-    let mut at = n;
-    let mut i = 0;
-    while i < counts.len() {
-        at = put_row(name, from + i as u64, counts[i], at, room);
-        i += 1;
+    for (i, count) in counts.iter().enumerate() {
+        put_row(out, name, from + i as u64, *count);
     }
-    at
 }
 
-fn put_numbers(tally: Tally, n: usize, room: &mut [u8]) -> usize
-    requires { n + 123 ≤ length room.old }
-    ensures next { result ≡ n + length (Report.number_lines tally) }
-    ensures text { room.new ≡ sets room.old n (Report.number_lines tally) }
-    ensures fits { result ≤ n + 123 }
+fn put_numbers(out: &mut Writer, tally: Tally)
+    requires { out.old.n + 123 ≤ length out.old.room.now }
+    ensures wrote { Wrote out.old out.new (Report.number_lines tally) }
+    ensures fits { out.new.n ≤ out.old.n + 123 }
 {
-    let a = stream::put_figure(b"accepted ", tally.accepted, n, room);
-    let b = stream::put_figure(b"refused 6 ", tally.refused_6, a, room);
-    let c = stream::put_figure(b"refused 7 ", tally.refused_7, b, room);
-    stream::put_figure(b"refused 9 ", tally.refused_9, c, room)
+    out.put_figure(b"accepted ", tally.accepted);
+    out.put_figure(b"refused 6 ", tally.refused_6);
+    out.put_figure(b"refused 7 ", tally.refused_7);
+    out.put_figure(b"refused 9 ", tally.refused_9);
 }
 
-fn put_gains(s: Subframes, n: usize, room: &mut [u8]) -> usize
-    requires { n + 79 ≤ length room.old }
-    ensures next { result ≡ n + length (Report.gain_lines s) }
-    ensures text { room.new ≡ sets room.old n (Report.gain_lines s) }
-    ensures fits { result ≤ n + 79 }
+fn put_gains(out: &mut Writer, s: Subframes)
+    requires { out.old.n + 79 ≤ length out.old.room.now }
+    ensures wrote { Wrote out.old out.new (Report.gain_lines s) }
+    ensures fits { out.new.n ≤ out.old.n + 79 }
 {
-    let a = stream::put_figure(b"largest code gain ", s.largest, n, room);
-    stream::put_figure(b"smallest code gain ", s.smallest, a, room)
+    out.put_figure(b"largest code gain ", s.largest);
+    out.put_figure(b"smallest code gain ", s.smallest);
 }
 
-fn put_clipped(c: Clippings, n: usize, room: &mut [u8]) -> usize
-    requires { n + 151 ≤ length room.old }
-    ensures next { result ≡ n + length (Report.clipped_lines c) }
-    ensures text { room.new ≡ sets room.old n (Report.clipped_lines c) }
-    ensures fits { result ≤ n + 151 }
+fn put_clipped(out: &mut Writer, c: Clippings)
+    requires { out.old.n + 151 ≤ length out.old.room.now }
+    ensures wrote { Wrote out.old out.new (Report.clipped_lines c) }
+    ensures fits { out.new.n ≤ out.old.n + 151 }
 {
-    let a = stream::put_figure(b"clipped prediction ", c.prediction, n, room);
-    let b = stream::put_figure(b"clipped mixing ", c.mixing, a, room);
-    let d = stream::put_figure(b"clipped synthesis ", c.synthesis, b, room);
-    stream::put_figure(b"clipped output ", c.output, d, room)
+    out.put_figure(b"clipped prediction ", c.prediction);
+    out.put_figure(b"clipped mixing ", c.mixing);
+    out.put_figure(b"clipped synthesis ", c.synthesis);
+    out.put_figure(b"clipped output ", c.output);
 }
 
-fn put_last(s: Subframes, c: Clippings, n: usize, room: &mut [u8]) -> usize
-    requires { n + 230 ≤ length room.old }
-    ensures next { result ≡ n + length (Report.last_lines s c) }
-    ensures text { room.new ≡ sets room.old n (Report.last_lines s c) }
-    ensures fits { result ≤ n + 230 }
+fn put_last(out: &mut Writer, s: Subframes, c: Clippings)
+    requires { out.old.n + 230 ≤ length out.old.room.now }
+    ensures wrote { Wrote out.old out.new (Report.last_lines s c) }
+    ensures fits { out.new.n ≤ out.old.n + 230 }
 {
-    let a = put_clipped(c, n, room);
-    put_gains(s, a, room)
+    put_clipped(out, c);
+    put_gains(out, s);
 }
 
-fn put_subframes(s: Subframes, c: Clippings, n: usize, room: &mut [u8]) -> usize
-    requires { n + 14010 ≤ length room.old }
-    ensures next { result ≡ n + length (Report.subframe_lines s c) }
-    ensures text { room.new ≡ sets room.old n (Report.subframe_lines s c) }
-    ensures fits { result ≤ n + 14010 }
+fn put_subframes(out: &mut Writer, s: Subframes, c: Clippings)
+    requires { out.old.n + 14010 ≤ length out.old.room.now }
+    ensures wrote { Wrote out.old out.new (Report.subframe_lines s c) }
+    ensures fits { out.new.n ≤ out.old.n + 14010 }
 {
-    let classes = s.classes;
-    let lags = s.lags;
-    let gain_indexes = s.gain_indexes;
-    let x = put_rows(b"class ", 0, &classes, n, room);
-    let y = put_rows(b"lag ", 19, &lags, x, room);
-    let z = put_rows(b"gain index ", 0, &gain_indexes, y, room);
-    put_last(s, c, z, room)
+    put_rows(out, b"class ", 0, &s.classes);
+    put_rows(out, b"lag ", 19, &s.lags);
+    put_rows(out, b"gain index ", 0, &s.gain_indexes);
+    put_last(out, s, c);
+}
+
+// All of the report.
+fn put_all(out: &mut Writer, tally: Tally)
+    requires { out.old.n + 14200 ≤ length out.old.room.now }
+    ensures wrote { Wrote out.old out.new (Report.report tally) }
+    ensures fits { out.new.n ≤ out.old.n + 14200 }
+{
+    put_numbers(out, tally);
+    put_subframes(out, tally.subframes, tally.clipped);
+    if !tally::full(tally) {
+        return;
+    }
+    out.put(b"stopped at 4294967295 lines\n");
 }
 
 // The report, over the beginning of room. The answer is its length.
@@ -103,12 +106,7 @@ pub fn put_report(tally: Tally, room: &mut [u8]) -> usize
     ensures text { room.new ≡ over (Report.report tally) room.old }
     ensures fits { IsPrefixLen result room.new }
 {
-    let subframes = tally.subframes;
-    let clipped = tally.clipped;
-    let a = put_numbers(tally, 0, room);
-    let b = put_subframes(subframes, clipped, a, room);
-    if tally::full(tally) {
-        return stream::put_at(b"stopped at 4294967295 lines\n", b, room);
-    }
-    b
+    let mut out = Writer { room, n: 0 };
+    put_all(&mut out, tally);
+    out.n
 }

@@ -6,96 +6,89 @@
 use calls::Answer;
 use half::Clipped;
 use hex_lines::Line;
-use numbers::{size, wide_word};
 use observation::Subframe;
+use refusal::Refusal;
 use state::State;
+use std::fmt::Display;
+use std::io::{Cursor, Write};
+use std::ops::ControlFlow;
 
-fn core_lines(out: &mut [u8; 4096], s: State) -> usize {
-    let lsp = s.lsp;
-    let excitation = s.excitation;
-    let memory = s.memory;
-    let a = numbers(out, 0, b"lsp", &lsp);
-    let b = numbers(out, a, b"past", &excitation);
-    let c = numbers(out, b, b"memory", &memory);
-    let d = numbers(out, c, b"sharpen_fixed", &[s.sharpen_fixed]);
-    numbers(out, d, b"last_half_lag", &[s.last_half_lag])
+// A part of what is printed is put together in a room: lines of a name and numbers with a blank before each. The longest part, 320 samples, has 2,249 bytes
+// at most; what were past the room would be left out.
+type Room = Cursor<[u8; 4096]>;
+
+fn numbers<T: Display>(out: &mut Room, name: &str, items: &[T]) {
+    let _ = write!(out, "{name}");
+    for x in items {
+        let _ = write!(out, " {x}");
+    }
+    let _ = write!(out, "\n");
 }
 
-fn filter_lines(out: &mut [u8; 4096], at: usize, fir: [i16; 6], iir: [i32; 6]) -> usize {
-    let a = numbers(out, at, b"fir", &fir);
-    long_numbers(out, a, b"iir", &iir)
-}
-
-fn history_lines(out: &mut [u8; 4096], at: usize, residuals: [f32; 30], gains: [f32; 4]) -> usize {
-    let a = floats(out, at, b"residuals", &residuals);
-    floats(out, a, b"gains", &gains)
+// Floats by their bits.
+fn floats(out: &mut Room, name: &str, items: &[f32]) {
+    let _ = write!(out, "{name}");
+    for x in items {
+        let bits = numbers::to_bits(*x);
+        let _ = write!(out, " {bits}");
+    }
+    let _ = write!(out, "\n");
 }
 
 // The state is the last part of what a line of the recording gave.
 fn state_part(rt: &HostRuntime, s: State, digest: bool) {
-    let mut out = io::buffer();
-    let fir = s.fir;
-    let iir = s.iir;
-    let residuals = s.residuals;
-    let gains = s.gains;
-    let a = core_lines(&mut out, s);
-    let b = filter_lines(&mut out, a, fir, iir);
-    let c = history_lines(&mut out, b, residuals, gains);
-    let d = text(&mut out, c, b"mark");
-    let e = number(&mut out, d, wide(s.mark));
-    let f = end(&mut out, e);
-    let g = sure_line(&mut out, f, s.sure);
-    part(rt, &out, g, digest);
+    let mut out = Cursor::new(io::buffer());
+    numbers(&mut out, "lsp", &s.lsp);
+    numbers(&mut out, "past", &s.excitation);
+    numbers(&mut out, "memory", &s.memory);
+    numbers(&mut out, "sharpen_fixed", &[s.sharpen_fixed]);
+    numbers(&mut out, "last_half_lag", &[s.last_half_lag]);
+    numbers(&mut out, "fir", &s.fir);
+    numbers(&mut out, "iir", &s.iir);
+    floats(&mut out, "residuals", &s.residuals);
+    floats(&mut out, "gains", &s.gains);
+    numbers(&mut out, "mark", &[s.mark]);
+    numbers(&mut out, "sure", &[s.sure]);
+    part(rt, out, digest);
     if digest {
-        pipe::write(rt, b"\n");
+        let _ = pipe::write(rt, b"\n");
     }
 }
 
 // What is said first is never a digest; a part that is one stands in the same line.
 fn head(rt: &HostRuntime, name: &[u8], n: u8, digest: bool) {
-    pipe::write(rt, name);
-    numbers::say_digits(rt, wide(n));
+    let _ = pipe::write(rt, name);
+    numbers::say_digits(rt, u64::from(n));
     if !digest {
-        pipe::write(rt, b"\n");
+        let _ = pipe::write(rt, b"\n");
     }
 }
 
-fn sure_line(out: &mut [u8; 4096], at: usize, sure: u8) -> usize {
-    let a = text(out, at, b"sure");
-    let b = number(out, a, wide(sure));
-    end(out, b)
-}
-
-fn clipped_line(out: &mut [u8; 4096], at: usize, c: Clipped) -> usize {
-    let a = text(out, at, b"clipped");
-    let b = number(out, a, wide(c.prediction));
-    let d = number(out, b, wide(c.mixing));
-    let e = number(out, d, wide(c.synthesis));
-    let f = number(out, e, wide(c.output));
-    end(out, f)
-}
-
 fn subframe_part(rt: &HostRuntime, s: Subframe, clipped: Clipped, sure: u8, digest: bool) {
-    let mut out = io::buffer();
-    let figures = s.figures;
-    let lpc = s.lpc;
-    let innovation = s.innovation;
-    let a = floats(&mut out, 0, b"figures", &figures);
-    let b = numbers(&mut out, a, b"lag", &[s.lag, s.frac]);
-    let c = numbers(&mut out, b, b"lpc", &lpc);
-    let d = numbers(&mut out, c, b"innovation", &innovation);
-    let e = text(&mut out, d, b"zero_residuals");
-    let f = number(&mut out, e, wide(s.zero_residuals));
-    let g = end(&mut out, f);
-    let h = clipped_line(&mut out, g, clipped);
-    let i = sure_line(&mut out, h, sure);
-    part(rt, &out, i, digest);
+    let mut out = Cursor::new(io::buffer());
+    floats(&mut out, "figures", &s.figures);
+    numbers(&mut out, "lag", &[s.lag, s.frac]);
+    numbers(&mut out, "lpc", &s.lpc);
+    numbers(&mut out, "innovation", &s.innovation);
+    numbers(&mut out, "zero_residuals", &[s.zero_residuals]);
+    numbers(
+        &mut out,
+        "clipped",
+        &[
+            clipped.prediction,
+            clipped.mixing,
+            clipped.synthesis,
+            clipped.output,
+        ],
+    );
+    numbers(&mut out, "sure", &[sure]);
+    part(rt, out, digest);
 }
 
-fn numbers_part(rt: &HostRuntime, name: &[u8], w: &[i16], digest: bool) {
-    let mut out = io::buffer();
-    let n = numbers(&mut out, 0, name, w);
-    part(rt, &out, n, digest);
+fn words_part(rt: &HostRuntime, name: &str, w: &[i16], digest: bool) {
+    let mut out = Cursor::new(io::buffer());
+    numbers(&mut out, name, w);
+    part(rt, out, digest);
 }
 
 fn answer_parts(rt: &HostRuntime, a: Answer, samples: &[i16], digest: bool) {
@@ -104,16 +97,14 @@ fn answer_parts(rt: &HostRuntime, a: Answer, samples: &[i16], digest: bool) {
         return;
     }
     head(rt, b"accepted ", a.mark, digest);
-    numbers_part(rt, b"samples", samples, digest);
-    let excitation = a.excitation;
-    numbers_part(rt, b"excitation", &excitation, digest);
+    words_part(rt, "samples", samples, digest);
+    words_part(rt, "excitation", &a.excitation, digest);
     let subframes = a.subframes;
     let clipped = a.clipped;
     let sure = a.sure;
-    subframe_part(rt, subframes[0], clipped[0], sure[0], digest);
-    subframe_part(rt, subframes[1], clipped[1], sure[1], digest);
-    subframe_part(rt, subframes[2], clipped[2], sure[2], digest);
-    subframe_part(rt, subframes[3], clipped[3], sure[3], digest);
+    for k in 0..4 {
+        subframe_part(rt, subframes[k], clipped[k], sure[k], digest);
+    }
 }
 
 // A line's call: the state after it.
@@ -172,45 +163,22 @@ fn ended(rt: &HostRuntime, first: bool, state: State, digest: bool) {
     }
 }
 
-fn put_bytes(file: &[u8; 15835], bytes: &mut [u8; 3908]) {
-    let mut i = 0;
-    while i < 3908 {
-        bytes[i] = file[11926 + i];
-        i += 1;
-    }
-}
-
 // The table file's words and bytes, and its number. A byte more than it should have tells one that is too long.
 fn read_tables(
     rt: &HostRuntime,
     name: &[u8],
     words: &mut [i16; 5963],
     bytes: &mut [u8; 3908],
-) -> u8 {
+) -> Result<(), Refusal> {
     let mut file = [0u8; 15835];
-    let got = pipe::read_file(rt, name, &mut file);
-    let n = got.n;
-    put_bytes(&file, bytes);
+    let n = pipe::moved(pipe::read_file(rt, name, &mut file));
+    bytes.copy_from_slice(&file[11926..15834]);
     table_file::check_file(&file[..n], words)
-}
-
-fn begins(s: &[u8], with: &[u8]) -> bool {
-    if s.len() < with.len() {
-        return false;
-    }
-    let mut i = 0;
-    while i < with.len() {
-        if s[i] != with[i] {
-            return false;
-        }
-        i += 1;
-    }
-    true
 }
 
 fn is_heading(line: Line) -> bool {
     let text = line.text;
-    begins(&text, b"digest ")
+    text.starts_with(b"digest ")
 }
 
 // The table file that a heading, the first n bytes of the text, names behind its seventh.
@@ -222,11 +190,10 @@ fn read_named(
     bytes: &mut [u8; 3908],
 ) {
     if n <= text.len() {
-        pipe::write(rt, &text[..n]);
+        let _ = pipe::write(rt, &text[..n]);
         if 7 <= n {
-            let number = read_tables(rt, &text[7..n], words, bytes);
-            if number != 0 {
-                head(rt, b" refused ", number, true);
+            if let Err(why) = read_tables(rt, &text[7..n], words, bytes) {
+                head(rt, b" refused ", why.number(), true);
             }
         }
     }
@@ -260,11 +227,8 @@ fn taken(
     let mut state = c.state;
     let mut line = c.line;
     let mut digest = c.digest;
-    let mut i = 0;
-    while i < s.len() {
-        let b = s[i];
-        i += 1;
-        if b == b'\n' {
+    for b in s {
+        if *b == b'\n' {
             if is_heading(line) {
                 ended(rt, first, state, digest);
                 state = headed(rt, line, words, bytes);
@@ -276,7 +240,7 @@ fn taken(
             }
             line = hex_lines::empty();
         } else {
-            line = hex_lines::push(line, b);
+            line = hex_lines::push(line, *b);
         }
     }
     Carried {
@@ -287,48 +251,50 @@ fn taken(
     }
 }
 
-#[derive(Drop)]
-struct Turn {
-    carried: Carried,
-    more: bool,
-}
-
+// A read, and all that it gives. One that failed, or gave nothing, is the last.
 fn read_some(
     rt: &HostRuntime,
     words: &mut [i16; 5963],
     bytes: &mut [u8; 3908],
     c: Carried,
-) -> Turn {
+) -> ControlFlow<Carried, Carried> {
     let mut buf = io::buffer();
-    let got = pipe::read(rt, &mut buf);
-    let n = got.n;
+    let n = pipe::read(rt, &mut buf).unwrap_or(0);
     let next = taken(rt, words, bytes, c, &buf[..n]);
-    Turn {
-        carried: next,
-        more: n > 0,
+    if n > 0 {
+        ControlFlow::Continue(next)
+    } else {
+        ControlFlow::Break(next)
     }
+}
+
+fn read_all(
+    rt: &HostRuntime,
+    words: &mut [i16; 5963],
+    bytes: &mut [u8; 3908],
+    start: Carried,
+) -> Carried {
+    let mut c = start;
+    for _ in 0..u64::MAX {
+        match read_some(rt, words, bytes, c) {
+            ControlFlow::Continue(next) => c = next,
+            ControlFlow::Break(last) => return last,
+        }
+    }
+    c
 }
 
 // The recording; a last line without its end counts too.
 fn run(rt: &HostRuntime, words: &mut [i16; 5963], bytes: &mut [u8; 3908]) {
     let start = state::cold_start(words, bytes);
     let cold = start.state;
-    let mut c = Carried {
+    let start = Carried {
         first: true,
         state: cold,
         line: hex_lines::empty(),
         digest: false,
     };
-    let mut turns = u64::MAX;
-    while turns > 0 {
-        let t = read_some(rt, words, bytes, c);
-        c = t.carried;
-        if t.more {
-            turns -= 1;
-        } else {
-            turns = 0;
-        }
-    }
+    let c = read_all(rt, words, bytes, start);
     let line = c.line;
     let state = c.state;
     if line.n != 0 {
@@ -341,123 +307,36 @@ fn run(rt: &HostRuntime, words: &mut [i16; 5963], bytes: &mut [u8; 3908]) {
 fn main(rt: HostRuntime) {
     let mut words = [0i16; 5963];
     let mut bytes = [0u8; 3908];
-    let number = read_tables(&rt, b"tables.bin", &mut words, &mut bytes);
-    if number != 0 {
-        head(&rt, b"refused ", number, false);
+    if let Err(why) = read_tables(&rt, b"tables.bin", &mut words, &mut bytes) {
+        head(&rt, b"refused ", why.number(), false);
         return;
     }
     run(&rt, &mut words, &mut bytes);
 }
 
-// A part of what is printed is put together in a room: lines of a name and numbers with a blank before each. Each function below puts
-// something at a place and answers the place behind it. The longest part, 320 samples, has 2,249 bytes at most.
-fn put(out: &mut [u8; 4096], at: usize, b: u8) -> usize {
-    if at < 4096 {
-        out[at] = b;
-        return at + 1;
-    }
-    at
-}
-
-fn text(out: &mut [u8; 4096], at: usize, s: &[u8]) -> usize {
-    let mut n = at;
-    let mut i = 0;
-    while i < s.len() {
-        n = put(out, n, s[i]);
-        i += 1;
-    }
-    n
-}
-
-fn end(out: &mut [u8; 4096], at: usize) -> usize {
-    put(out, at, b'\n')
-}
-
-fn number(out: &mut [u8; 4096], at: usize, n: u64) -> usize {
-    let mut digits = [0u8; 20];
-    let k = io::decimal(n, &mut digits);
-    let start = put(out, at, b' ');
-    text(out, start, &digits[..k])
-}
-
-fn signed(out: &mut [u8; 4096], at: usize, x: i64) -> usize {
-    if 0 <= x {
-        return number(out, at, size(x));
-    }
-    let mut digits = [0u8; 20];
-    let k = io::decimal(size(x), &mut digits);
-    let start = text(out, at, b" -");
-    text(out, start, &digits[..k])
-}
-
-fn wide_number(x: i32) -> i64 {
-    x as i64
-}
-
-fn numbers(out: &mut [u8; 4096], at: usize, name: &[u8], w: &[i16]) -> usize {
-    let mut n = text(out, at, name);
-    let mut i = 0;
-    while i < w.len() {
-        n = signed(out, n, wide_word(w[i]));
-        i += 1;
-    }
-    end(out, n)
-}
-
-fn long_numbers(out: &mut [u8; 4096], at: usize, name: &[u8], w: &[i32]) -> usize {
-    let mut n = text(out, at, name);
-    let mut i = 0;
-    while i < w.len() {
-        n = signed(out, n, wide_number(w[i]));
-        i += 1;
-    }
-    end(out, n)
-}
-
-fn wide_bits(n: u32) -> u64 {
-    n as u64
-}
-
-fn floats(out: &mut [u8; 4096], at: usize, name: &[u8], w: &[f32]) -> usize {
-    let mut n = text(out, at, name);
-    let mut i = 0;
-    while i < w.len() {
-        n = number(out, n, wide_bits(numbers::to_bits(w[i])));
-        i += 1;
-    }
-    end(out, n)
-}
-
-fn wide(b: u8) -> u64 {
-    b as u64
-}
-
 // FNV-1a of 32 bits.
 fn fnv(s: &[u8]) -> u64 {
     let mut h = 0x811c_9dc5;
-    let mut i = 0;
-    while i < s.len() {
-        h = (h ^ wide(s[i])) % 0x1_0000_0000 * 0x0100_0193 % 0x1_0000_0000;
-        i += 1;
+    for b in s {
+        h = (h ^ u64::from(*b)) % 0x1_0000_0000 * 0x0100_0193 % 0x1_0000_0000;
     }
     h
 }
 
-fn say(rt: &HostRuntime, out: &[u8], n: usize, digest: bool) {
-    if out.len() < n {
+// A part is over: it is written, or in its place 32 bits of it.
+fn part(rt: &HostRuntime, out: Room, digest: bool) {
+    let n = out.position();
+    let room = out.into_inner();
+    if 4096 < n {
         return;
     }
+    let text = &room[..n as usize];
     if digest {
         let mut digits = [0u8; 16];
-        let k = io::hex(fnv(&out[..n]), 8, &mut digits);
-        pipe::write(rt, b" ");
-        pipe::write(rt, &digits[..k]);
+        let k = io::hex(fnv(text), 8, &mut digits);
+        let _ = pipe::write(rt, b" ");
+        let _ = pipe::write(rt, &digits[..k]);
     } else {
-        pipe::write(rt, &out[..n]);
+        let _ = pipe::write(rt, text);
     }
-}
-
-// A part is over: it is written, or in its place 32 bits of it.
-fn part(rt: &HostRuntime, out: &[u8; 4096], n: usize, digest: bool) {
-    say(rt, out, n, digest);
 }

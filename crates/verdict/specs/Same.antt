@@ -3,21 +3,15 @@ use Rattle.std.specs.Prelude.{ℕ, ◌+◌, ◌<◌, ◌≤◌, ◌≡◌, refl,
 use Rattle.std.proofs.Common.{sym, ap, true≢false, add-one}
 use Rattle.std.proofs.Math.ListN.{drop_of_length-le}
 use Rattle.std.proofs.Math.Seq.{drop-cons}
-use borrow.Author.Tests.{eq-eqb, ne_eqb, eqb-true}
-use Rattle.sequence.specs.All.{and_left, and_right}
+use Rattle.std.proofs.lemmas.Slice.Eq.{bytes_eq-Decides}
+use borrow.Author.Tests.{eq-eqb, ne_eqb}
 use Rattle.verdict.specs.Verdict.{same}
 
 pub same_is : (a b : List ℕ) → same a b ≡ true → a ≡ b
-unfolding same
-same_is [] [] e = refl
-same_is [] (y ∷ ys) e = absurd (true≢false (sym e))
-same_is (x ∷ xs) [] e = absurd (true≢false (sym e))
-same_is (x ∷ xs) (y ∷ ys) e = rw (eqb-true x y (and_left (eqb x y) (same xs ys) e), same_is xs ys (and_right (eqb x y) (same xs ys) e))
+same_is a b e = (bytes_eq-Decides a b).0 e
 
 pub same_self : (a : List ℕ) → same a a ≡ true
-unfolding same
-same_self [] = refl
-same_self (x ∷ xs) = rw (eq-eqb x x refl) (same_self xs)
+same_self a = (bytes_eq-Decides a a).1 refl
 
 pub same_not : (a b : List ℕ) → (length a ≡ length b → ⊥) → same a b ≡ false
 same_not a b h = by (same a b) refl
@@ -29,13 +23,10 @@ same_not a b h = by (same a b) refl
 -- ---- byte by byte
 module _ (a b : List ℕ) (i : ℕ) where
   pub same_more : i < length a → i < length b → get_or a i 0 ≡ get_or b i 0 → same (drop i a) (drop i b) ≡ same (drop (i + 1) a) (drop (i + 1) b)
-  unfolding same
   same_more p q e = rw (add-one, drop-cons a i 0 p, drop-cons b i 0 q, eq-eqb (get_or a i 0) (get_or b i 0) e)
 
   pub same_stop : i < length a → i < length b → (get_or a i 0 ≡ get_or b i 0 → ⊥) → same (drop i a) (drop i b) ≡ false
-  unfolding same
   same_stop p q e = rw (drop-cons a i 0 p, drop-cons b i 0 q, ne_eqb (get_or a i 0) (get_or b i 0) e)
 
   pub same_end : length a ≤ i → length b ≤ i → same (drop i a) (drop i b) ≡ true
-  unfolding same
   same_end p q = rw (drop_of_length-le a {i = i} p, drop_of_length-le b {i = i} q)

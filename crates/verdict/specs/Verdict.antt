@@ -1,5 +1,5 @@
 -- A line of another decoder's beside ours: the forms of a line, what differs first between two, and what is told of all lines.
-use Rattle.std.specs.Prelude.{ℕ, ◌+◌, ◌-◌, ◌*◌, min, List, [], ◌∷◌, ◌++◌, Bool, true, false, cond, not, ◌&&◌, ◌||◌, eqb, ltb, leb, length, get_or, take, drop}
+use Rattle.std.specs.Prelude.{ℕ, ◌+◌, ◌-◌, ◌*◌, min, List, [], ◌∷◌, ◌++◌, Bool, cond, not, ◌&&◌, ◌||◌, eqb, ltb, leb, length, get_or, take, drop, bytes_eq}
 use Rattle.sequence.specs.All.{all}
 use Rattle.sequence.specs.First.{first}
 use Rattle.stream.specs.Decimal.{decimal}
@@ -10,11 +10,8 @@ unfoldable pub is_decimal : ℕ → Bool
 is_decimal c = leb 48 c && leb c 57
 
 -- the same bytes
-unfoldable pub same : List ℕ → List ℕ → Bool
-same [] [] = true
-same [] (y ∷ ys) = false
-same (x ∷ xs) [] = false
-same (x ∷ xs) (y ∷ ys) = eqb x y && same xs ys
+abbrev pub same : List ℕ → List ℕ → Bool
+same = bytes_eq
 
 -- `refused `
 abbrev pub refused_word : List ℕ

@@ -15,17 +15,11 @@ pub fn line_end(text: &[u8]) -> usize
     ensures value { result ≡ length (pieces text.now).first }
     ensures upper_bound { result ≤ length text.now }
 {
-    let mut i = 0;
-    while i < text.len() {
-        if text[i] == b'\n' {
-            return i;
-        }
-        i += 1;
-    }
-    i
+    text.iter().position(|b| *b == b'\n').unwrap_or(text.len())
 }
 
 // How much of a chunk goes up to its first newline, the newline too.
+#[tactic(auto, unfolding(crate::specs::Round::up_to))]
 pub fn up_to(chunk: &[u8]) -> usize
     ensures value { result ≡ Round.up_to chunk.now }
     ensures upper_bound { result ≤ length chunk.now }
@@ -34,16 +28,15 @@ pub fn up_to(chunk: &[u8]) -> usize
     if k < chunk.len() { k + 1 } else { k }
 }
 
+#[tactic(auto, unfolding(crate::specs::Verdict::is_decimal))]
 fn is_decimal(b: u8) -> bool
     ensures { result ≡ Verdict.is_decimal b }
 {
-    match b {
-        b'0'..=b'9' => true,
-        _ => false,
-    }
+    b.is_ascii_digit()
 }
 
 // A byte more of their line. Behind the last place only a byte that is no decimal digit is kept, in that place: it tells that the line is no refusal.
+#[tactic(auto, unfolding(crate::specs::Kept::pushed, stream::specs::Held::push_count))]
 fn push(held: &mut [u8], n: usize, b: u8) -> usize
     requires { length held.old ≡ 1283 }
     ensures count { result ≡ (Kept.pushed (Kept.kept held.old n) b).n }
@@ -66,108 +59,56 @@ pub fn push_all(held: &mut [u8], start: usize, part: &[u8]) -> usize
     ensures text { held.new ≡ (fed_all Kept.pushed (Kept.kept held.old start) part.now).held }
 {
     let mut n = start;
-    let mut i = 0;
-    while i < part.len() {
-        let b = part[i];
-        n = push(held, n, b);
-        i += 1;
+    for b in part {
+        n = push(held, n, *b);
     }
     n
-}
-
-// Whether two texts are the same bytes.
-fn same(a: &[u8], b: &[u8]) -> bool
-    ensures { result ≡ Verdict.same a.now b.now }
-{
-    if a.len() != b.len() {
-        return false;
-    }
-    let mut i = 0;
-    while i < a.len() {
-        if a[i] == b[i] {
-            i += 1;
-        } else {
-            return false;
-        }
-    }
-    true
 }
 
 fn decimals(text: &[u8]) -> bool
     ensures { result ≡ all Verdict.is_decimal text.now }
 {
-    let mut i = 0;
-    while i < text.len() {
-        if is_decimal(text[i]) {
-            i += 1;
-        } else {
-            return false;
-        }
-    }
-    true
+    text.iter().all(|b| is_decimal(*b))
 }
 
+#[tactic(auto, unfolding(hex_lines::specs::Text::is_digit))]
 fn digits(text: &[u8]) -> bool
     ensures { result ≡ all Text.is_digit text.now }
 {
-    let mut i = 0;
-    while i < text.len() {
-        if hex_lines::value(text[i]) < 16 {
-            i += 1;
-        } else {
-            return false;
-        }
-    }
-    true
+    text.iter().all(|b| hex_lines::value(*b) < 16)
 }
 
+#[tactic(auto, unfolding(crate::specs::Verdict::is_refusal))]
 fn is_refusal(text: &[u8]) -> bool
     ensures { result ≡ Verdict.is_refusal text.now }
 {
-    if text.len() <= 8 {
-        return false;
-    }
-    if !same(&text[..8], b"refused ") {
-        return false;
-    }
-    decimals(&text[8..])
+    text.strip_prefix(b"refused ")
+        .is_some_and(|number| !number.is_empty() && decimals(number))
 }
 
+#[tactic(auto, unfolding(crate::specs::Verdict::is_frame))]
 fn is_frame(text: &[u8]) -> bool
     ensures frame { result ≡ Verdict.is_frame text.now }
     ensures long { result ≡ true → length text.now ≡ 1282 }
 {
-    if text.len() != 1282 {
-        return false;
-    }
-    if !is_decimal(text[0]) {
-        return false;
-    }
-    if text[1] != b' ' {
-        return false;
-    }
-    digits(&text[2..])
+    text.len() == 1282 && is_decimal(text[0]) && text[1] == b' ' && digits(&text[2..])
 }
 
+#[tactic(auto, unfolding(crate::specs::Verdict::known))]
 pub fn known(text: &[u8]) -> bool
     ensures { result ≡ Verdict.known text.now }
 {
-    if is_frame(text) {
-        return true;
-    }
-    is_refusal(text)
+    is_frame(text) || is_refusal(text)
 }
 
 pub fn both_frames(a: &[u8], b: &[u8]) -> bool
     ensures frames { result ≡ Verdict.is_frame a.now && Verdict.is_frame b.now }
     ensures long { result ≡ true → (length a.now ≡ 1282) × (length b.now ≡ 1282) }
 {
-    if is_frame(a) {
-        return is_frame(b);
-    }
-    false
+    is_frame(a) && is_frame(b)
 }
 
+#[tactic(auto, unfolding(crate::specs::Verdict::digits_at))]
 fn same_digits(ours: &[u8], theirs: &[u8], p: usize) -> bool
     requires fact_1 { length ours.now ≡ 1282 }
     requires fact_2 { length theirs.now ≡ 1282 }
@@ -176,7 +117,7 @@ fn same_digits(ours: &[u8], theirs: &[u8], p: usize) -> bool
 {
     let from = 2 + 4 * p;
     let to = from + 4;
-    same(&ours[from..to], &theirs[from..to])
+    ours[from..to] == theirs[from..to]
 }
 
 // The lowest place whose digits differ; the last where none before it does.
@@ -186,28 +127,23 @@ pub fn place(ours: &[u8], theirs: &[u8]) -> usize
     ensures place { result ≡ Verdict.place ours.now theirs.now }
     ensures within { result < 320 }
 {
-    let mut p = 0;
-    while p < 319 {
-        if same_digits(ours, theirs, p) {
-            p += 1;
-        } else {
-            return p;
-        }
-    }
-    p
+    (0..319)
+        .find(|p| !same_digits(ours, theirs, *p))
+        .unwrap_or(319)
 }
 
 // The number that the digits of a place spell.
+#[tactic(auto, unfolding(crate::specs::Verdict::spelled))]
 pub fn spelled(text: &[u8], p: usize) -> u32
     requires fact_1 { length text.now ≡ 1282 }
     requires fact_2 { p < 320 }
     ensures { result ≡ Verdict.spelled text.now p }
 {
     let at = 2 + 4 * p;
-    let a = hex_lines::value(text[at]) as u32;
-    let b = hex_lines::value(text[at + 1]) as u32;
-    let c = hex_lines::value(text[at + 2]) as u32;
-    let d = hex_lines::value(text[at + 3]) as u32;
+    let a = u32::from(hex_lines::value(text[at]));
+    let b = u32::from(hex_lines::value(text[at + 1]));
+    let c = u32::from(hex_lines::value(text[at + 2]));
+    let d = u32::from(hex_lines::value(text[at + 3]));
     4096 * a + 256 * b + 16 * c + d
 }
 
@@ -215,25 +151,20 @@ pub fn spelled(text: &[u8], p: usize) -> u32
 pub fn agrees(ours: &[u8], theirs: &[u8], whole: bool) -> bool
     ensures { result ≡ whole && Verdict.same ours.now theirs.now }
 {
-    if whole {
-        return same(ours, theirs);
-    }
-    false
+    whole && ours == theirs
 }
 
 // The next line's number. It stays at the last one that a u64 holds.
+#[tactic(auto, unfolding(crate::specs::Verdict::next))]
 pub fn next(number: u64) -> u64
     ensures { result ≡ Verdict.next number }
 {
-    if number == u64::MAX {
-        return number;
-    }
-    number + 1
+    number.saturating_add(1)
 }
 
 // How much of their line is held.
 pub fn least(n: usize) -> usize
     ensures { result ≡ min n 1283 }
 {
-    if n < 1283 { n } else { 1283 }
+    n.min(1283)
 }

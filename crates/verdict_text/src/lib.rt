@@ -2,143 +2,165 @@
 #![tactic(auto)]
 
 ghost use Rattle.std.specs.Prelude.{◌≡◌, ◌+◌, ◌-◌, ◌≤◌, length};
-ghost use Rattle.std.proofs.lemmas.List.Edits.{sets};
 ghost use Rattle.stream.specs.Room.{over};
+ghost use Rattle.writer.specs.Wrote.{Wrote};
 ghost use Rattle.verdict.specs.Verdict as Verdict;
 ghost use Rattle.verdict.specs.Round as Round;
 
-fn below_65536(v: u32) -> u32
-    ensures { result ≡ 65536 - v }
-{
-    if v < 65536 { 65536 - v } else { 0 }
-}
+use writer::Writer;
 
 // A blank and a number of 16 bits as a signed one.
-fn put_signed(v: u32, n: usize, room: &mut [u8]) -> usize
-    requires { n + 22 ≤ length room.old }
-    ensures next { result ≡ n + length (Verdict.spaced v) }
-    ensures text { room.new ≡ sets room.old n (Verdict.spaced v) }
+fn put_signed(out: &mut Writer, v: u32)
+    requires { out.old.n + 22 ≤ length out.old.room.now }
+    ensures wrote { Wrote out.old out.new (Verdict.spaced v) }
+    ensures fits { out.new.n ≤ out.old.n + 22 }
 {
     if v < 32768 {
-        let a = stream::put_at(b" ", n, room);
-        return stream::put_decimal(v as u64, a, room);
+        out.put(b" ");
+        out.put_decimal(u64::from(v));
+        return;
     }
-    let a = stream::put_at(b" -", n, room);
-    stream::put_decimal(below_65536(v) as u64, a, room)
+    out.put(b" -");
+    out.put_decimal(u64::from(65536u32.saturating_sub(v)));
 }
 
-// `line N`, at the start of room.
-fn put_head(number: u64, room: &mut [u8]) -> usize
-    requires { 128 ≤ length room.old }
-    ensures next { result ≡ length (Verdict.head number) }
-    ensures text { room.new ≡ sets room.old 0 (Verdict.head number) }
+// `line N`
+fn put_head(out: &mut Writer, number: u64)
+    requires { out.old.n + 25 ≤ length out.old.room.now }
+    ensures wrote { Wrote out.old out.new (Verdict.head number) }
+    ensures fits { out.new.n ≤ out.old.n + 25 }
 {
-    let a = stream::put_at(b"line ", 0, room);
-    stream::put_decimal(number, a, room)
+    out.put(b"line ");
+    out.put_decimal(number);
 }
 
-fn put_says(number: u64, words: &[u8], room: &mut [u8]) -> usize
-    requires fact_1 { length words.now ≤ 32 }
-    requires fact_2 { 128 ≤ length room.old }
-    ensures length { result ≡ length (Verdict.says number words.now) }
-    ensures text { room.new ≡ over (Verdict.says number words.now) room.old }
+fn put_says(out: &mut Writer, number: u64, words: &[u8])
+    requires words { length words.now ≤ 32 }
+    requires room { out.old.n + 58 ≤ length out.old.room.now }
+    ensures wrote { Wrote out.old out.new (Verdict.says number words.now) }
+    ensures fits { out.new.n ≤ out.old.n + 58 }
 {
-    let a = put_head(number, room);
-    let b = stream::put_at(words, a, room);
-    stream::put_at(b"\n", b, room)
+    put_head(out, number);
+    out.put(words);
+    out.put(b"\n");
 }
 
 // ` sample P`
-fn put_place(p: usize, n: usize, room: &mut [u8]) -> usize
-    requires { n + 28 ≤ length room.old }
-    ensures next { result ≡ n + length (Verdict.sample_of p) }
-    ensures text { room.new ≡ sets room.old n (Verdict.sample_of p) }
+fn put_place(out: &mut Writer, p: usize)
+    requires { out.old.n + 28 ≤ length out.old.room.now }
+    ensures wrote { Wrote out.old out.new (Verdict.sample_of p) }
+    ensures fits { out.new.n ≤ out.old.n + 28 }
 {
-    let a = stream::put_at(b" sample ", n, room);
-    stream::put_decimal(p as u64, a, room)
+    out.put(b" sample ");
+    out.put_decimal(p as u64);
 }
 
-fn put_sample(number: u64, p: usize, ours: u32, theirs: u32, room: &mut [u8]) -> usize
-    requires { 128 ≤ length room.old }
-    ensures length { result ≡ length (Verdict.says number (Verdict.sample p ours theirs)) }
-    ensures text { room.new ≡ over (Verdict.says number (Verdict.sample p ours theirs)) room.old }
+fn put_sample(out: &mut Writer, number: u64, p: usize, ours: u32, theirs: u32)
+    requires { out.old.n + 98 ≤ length out.old.room.now }
+    ensures wrote { Wrote out.old out.new (Verdict.says number (Verdict.sample p ours theirs)) }
+    ensures fits { out.new.n ≤ out.old.n + 98 }
 {
-    let a = put_head(number, room);
-    let b = put_place(p, a, room);
-    let c = put_signed(ours, b, room);
-    let d = put_signed(theirs, c, room);
-    stream::put_at(b"\n", d, room)
+    put_head(out, number);
+    put_place(out, p);
+    put_signed(out, ours);
+    put_signed(out, theirs);
+    out.put(b"\n");
 }
 
 // Of two frames the lowest place whose digits differ, with both samples.
-fn put_lowest(number: u64, ours: &[u8], theirs: &[u8], room: &mut [u8]) -> usize
-    requires fact_1 { length ours.now ≡ 1282 }
-    requires fact_2 { length theirs.now ≡ 1282 }
-    requires fact_3 { 128 ≤ length room.old }
-    ensures length { result ≡ length (Verdict.says number (Verdict.sample_at ours.now theirs.now (Verdict.place ours.now theirs.now))) }
-    ensures text { room.new ≡ over (Verdict.says number (Verdict.sample_at ours.now theirs.now (Verdict.place ours.now theirs.now))) room.old }
+fn put_lowest(out: &mut Writer, number: u64, ours: &[u8], theirs: &[u8])
+    requires ours { length ours.now ≡ 1282 }
+    requires theirs { length theirs.now ≡ 1282 }
+    requires room { out.old.n + 98 ≤ length out.old.room.now }
+    ensures wrote { Wrote out.old out.new (Verdict.says number (Verdict.sample_at ours.now theirs.now (Verdict.place ours.now theirs.now))) }
+    ensures fits { out.new.n ≤ out.old.n + 98 }
 {
     let p = verdict::place(ours, theirs);
     let a = verdict::spelled(ours, p);
     let b = verdict::spelled(theirs, p);
-    put_sample(number, p, a, b, room)
+    put_sample(out, number, p, a, b);
 }
 
 // What differs first between a line of ours and another one of theirs.
-fn put_difference(number: u64, ours: &[u8], theirs: &[u8], room: &mut [u8]) -> usize
-    requires { 128 ≤ length room.old }
-    ensures length { result ≡ length (Verdict.difference number ours.now theirs.now) }
-    ensures text { room.new ≡ over (Verdict.difference number ours.now theirs.now) room.old }
+#[tactic(auto, unfolding(verdict::specs::Verdict::difference, verdict::specs::Verdict::what))]
+fn put_difference(out: &mut Writer, number: u64, ours: &[u8], theirs: &[u8])
+    requires { out.old.n + 98 ≤ length out.old.room.now }
+    ensures wrote { Wrote out.old out.new (Verdict.difference number ours.now theirs.now) }
+    ensures fits { out.new.n ≤ out.old.n + 98 }
 {
     if !verdict::known(theirs) {
-        return put_says(number, b" refused 16", room);
+        return put_says(out, number, b" refused 16");
     }
     if !verdict::both_frames(ours, theirs) {
-        return put_says(number, b" refusal", room);
+        return put_says(out, number, b" refusal");
     }
     if ours[0] != theirs[0] {
-        return put_says(number, b" mark", room);
+        return put_says(out, number, b" mark");
     }
-    put_lowest(number, ours, theirs, room)
+    put_lowest(out, number, ours, theirs);
 }
 
 // A line that we do not have.
-fn put_added(number: u64, theirs: &[u8], room: &mut [u8]) -> usize
-    requires { 128 ≤ length room.old }
-    ensures length { result ≡ length (Verdict.added number theirs.now) }
-    ensures text { room.new ≡ over (Verdict.added number theirs.now) room.old }
+#[tactic(auto, unfolding(verdict::specs::Verdict::added))]
+fn put_added(out: &mut Writer, number: u64, theirs: &[u8])
+    requires { out.old.n + 98 ≤ length out.old.room.now }
+    ensures wrote { Wrote out.old out.new (Verdict.added number theirs.now) }
+    ensures fits { out.new.n ≤ out.old.n + 98 }
 {
     if verdict::known(theirs) {
-        return put_says(number, b" extra", room);
+        return put_says(out, number, b" extra");
     }
-    put_says(number, b" refused 16", room)
+    put_says(out, number, b" refused 16");
 }
 
 // A line of theirs beside the text of ours, which is empty where we have none: nothing where they agree.
+#[tactic(auto, using(writer::specs::Wrote::wrote_none), unfolding(verdict::specs::Round::round))]
+fn put_judged(out: &mut Writer, number: u64, text: &[u8], theirs: &[u8], whole: bool)
+    requires { out.old.n + 98 ≤ length out.old.room.now }
+    ensures wrote { Wrote out.old out.new (Round.round number text.now theirs.now whole) }
+    ensures fits { out.new.n ≤ out.old.n + 98 }
+{
+    if text.len() == 0 {
+        return put_added(out, number, theirs);
+    }
+    let k = text.len() - 1;
+    if verdict::agrees(&text[..k], theirs, whole) {
+        return;
+    }
+    put_difference(out, number, &text[..k], theirs);
+}
+
+// What is told where they have no line more.
+#[tactic(auto, unfolding(verdict::specs::Round::last))]
+fn put_end(out: &mut Writer, number: u64, said: usize)
+    requires { out.old.n + 98 ≤ length out.old.room.now }
+    ensures wrote { Wrote out.old out.new (Round.last number said) }
+    ensures fits { out.new.n ≤ out.old.n + 98 }
+{
+    if said == 0 {
+        return out.put(b"agree\n");
+    }
+    put_says(out, number, b" missing");
+}
+
+// The same, over the beginning of room. The answer is its length.
 pub fn put_round(number: u64, text: &[u8], theirs: &[u8], whole: bool, room: &mut [u8]) -> usize
     requires { 128 ≤ length room.old }
     ensures length { result ≡ length (Round.round number text.now theirs.now whole) }
     ensures text { room.new ≡ over (Round.round number text.now theirs.now whole) room.old }
 {
-    if text.len() == 0 {
-        return put_added(number, theirs, room);
-    }
-    let k = text.len() - 1;
-    if verdict::agrees(&text[..k], theirs, whole) {
-        return 0;
-    }
-    put_difference(number, &text[..k], theirs, room)
+    let mut out = Writer { room, n: 0 };
+    put_judged(&mut out, number, text, theirs, whole);
+    out.n
 }
 
-// What is told where they have no line more.
+// What is told where they have no line more, over the beginning of room.
 pub fn put_last(number: u64, said: usize, room: &mut [u8]) -> usize
     requires { 128 ≤ length room.old }
     ensures length { result ≡ length (Round.last number said) }
     ensures text { room.new ≡ over (Round.last number said) room.old }
 {
-    if said == 0 {
-        stream::put(b"agree\n", room);
-        return 6;
-    }
-    put_says(number, b" missing", room)
+    let mut out = Writer { room, n: 0 };
+    put_end(&mut out, number, said);
+    out.n
 }

@@ -8,4 +8,4 @@ use Rattle.adaptive.proofs.guarded.Goals as goal
 
 pub returns : goal.returns
 unfolding Pitch.guarded
-returns c = ap (λ (l : List ℤ). replicate 21 (pos 0) ++ l) (append-nil _ ∙ c.before.copy.ensures)
+returns c = ap (λ (l : List ℤ). replicate 21 (pos 0) ++ l) (append-nil _ ∙ c.before.copy_from_slice.ensures.after)

@@ -27,23 +27,13 @@ returns-then-first-ge80 c =
     let e = c.delay-first.ensures in
     sym (unsharpened (Pitch.interp c.args.words.now) c.args.code.now c.args.lag c.args.gain (rw (← e) c.if-first-ge80.true))
 
-pub window-taps-requires : goal.window-taps-requires
-window-taps-requires c = (ap length c.interp.ensures ∙ length_interp c.args.words.now c.requires.0, rw c.phase.ensures (sane_phase c.args.lag c.requires.2))
-
-pub slice_bounds-narrow-end : goal.slice_bounds-narrow-end
-slice_bounds-narrow-end c = sym c.window-taps.ensures.size
-
-pub narrow-narrow-requires : goal.narrow-narrow-requires
-narrow-narrow-requires c = c.window-taps.ensures.size
-
-pub slice_bounds-sharpen_from-end : goal.slice_bounds-sharpen_from-end
-slice_bounds-sharpen_from-end c = sym c.window-taps.ensures.size
+pub new-taps-requires : goal.new-taps-requires
+new-taps-requires c = (ap length c.interp.ensures ∙ length_interp c.args.words.now c.requires.0, rw c.phase.ensures (sane_phase c.args.lag c.requires.2))
 
 pub sharpen_from-requires : goal.sharpen_from-requires
 sharpen_from-requires c =
     let r : (20 ≤ c.delay-first.result) × (c.delay-first.result ≤ 144) = rw c.delay-first.ensures (sane_delay c.args.lag c.requires.2) in
-    let w = windowed_of c.interp.ensures c.phase.ensures c.window-taps.ensures in
-    (w.size, c.narrow-narrow.ensures, search rules, omega arith, omega arith, w.rest)
+    (search rules, omega arith, omega arith)
 
 pub returns : goal.returns
 unfolding Pitch.sharpen Pitch.first
@@ -51,11 +41,11 @@ returns c =
     let a = c.args in
     let taps = Pitch.interp a.words.now in
     let first = c.delay-first.result - 10 in
-    let w = windowed_of c.interp.ensures c.phase.ensures c.window-taps.ensures in
+    let w = windowed_of c.interp.ensures c.phase.ensures c.new-taps.ensures in
     let Z : List ℤ = rewritten (Pitch.sharpened taps (Pitch.phase a.lag) (Pitch.first a.lag) a.gain) (21 + Pitch.first a.lag) (Pitch.guarded a.code.now) (80 - Pitch.first a.lag) in
     let e : c.sharpen_from.new.buf ≡ Z =
     c.sharpen_from.ensures
-    ∙ sharpened_is taps c.window-taps.result (Pitch.phase a.lag) w first (to_z w16 (of_z w16 a.gain)) (21 + first) c.guarded-buf.result (80 - first)
+    ∙ sharpened_is taps c.new-taps.result.window (Pitch.phase a.lag) w first (to_z w16 (of_z w16 a.gain)) (21 + first) c.guarded-buf.result (80 - first)
     ∙ simp (c.delay-first.ensures, c.guarded-buf.ensures, to_z-of_z w16 _ c.ranges.gain) in
     let n = length_sharpen taps a.code.now a.lag a.gain in
-    c.copy.ensures ∙ ap (λ (l : List ℤ). take 80 (drop 21 l)) e ∙ take_all 80 (drop 21 Z) (omega (arith, n, c.requires.1))
+    c.copy_from_slice.ensures.after ∙ ap (λ (l : List ℤ). take 80 (drop 21 l)) e ∙ take_all 80 (drop 21 Z) (omega (arith, n, c.requires.1))

@@ -4,4 +4,4 @@ use Rattle.answers.proofs.accepted.Goals as goal
 
 pub returns : goal.returns
 unfolding accepted
-returns c = rw (c.before.before.before.before.next-state.ensures, c.before.before.before.before.before.after-s.ensures, c.before.before.before.before.before.before.before.raised-after.ensures)
+returns c = rw (c.next.ensures, c.after-left.ensures, c.raised-after.ensures)

@@ -3,10 +3,6 @@ use native.Mathlib.Omega.{arith}
 use Rattle.calls.specs.Celp.{raised}
 use Rattle.answers.proofs.raised.Goals as goal
 
-pub returns-then-mark-lt2 : goal.returns-then-mark-lt2
+pub returns : goal.returns
 unfolding raised
-returns-then-mark-lt2 c = omega arith
-
-pub returns-else-mark-lt2 : goal.returns-else-mark-lt2
-unfolding raised
-returns-else-mark-lt2 c = omega arith
+returns c = omega arith

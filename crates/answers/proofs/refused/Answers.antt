@@ -4,4 +4,4 @@ use Rattle.answers.proofs.refused.Goals as goal
 
 pub returns : goal.returns
 unfolding refused
-returns c = rw (c.before.before.marked-left.ensures, c.before.silent-nothing.ensures, c.unclipped-none.ensures)
+returns c = rw (c.marked.ensures, c.silent.ensures, c.unclipped.ensures)

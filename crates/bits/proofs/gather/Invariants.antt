@@ -1,5 +1,4 @@
 use mathlib.Core.Path.{◌≡◌}
-use Prim.Native.Nat.{◌-◌}
 use Rattle.sequence.specs.Table.{Written}
 use Rattle.bits.specs.Bits as Bits
 use Rattle.bits.proofs.Walk.{Walk, field}
@@ -7,6 +6,3 @@ use Rattle.bits.proofs.gather.Given as goal
 
 abbrev pub invariant-loop-k : goal.invariant-loop-k
 invariant-loop-k l = (l.places ≡ Bits.places) × Walk l.at l.k × Written (field (Bits.read_bit l.payload)) 24 l.fields l.k
-
-abbrev pub decreases-loop-k : goal.decreases-loop-k
-decreases-loop-k l = 24 - l.k

@@ -15,4 +15,4 @@ pub bounds-places-j : goal.bounds-places-j
 bounds-places-j c = omega (arith, ap length c.before.before.requires.0 ∙ many)
 
 pub returns : goal.returns
-returns c = c.wide.ensures ∙ ap (λ (l : List ℕ). get_or l c.before.before.before.args.j 0) c.before.before.before.requires.0
+returns c = c.from.ensures ∙ ap (λ (l : List ℕ). get_or l c.args.j 0) c.requires.0

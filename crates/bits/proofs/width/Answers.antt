@@ -4,4 +4,4 @@ use Rattle.bits.proofs.width.Goals as goal
 
 pub returns : goal.returns
 unfolding widths groups
-returns c = c.wide.ensures
+returns c = c.from.ensures

@@ -1,35 +1,31 @@
 -- Refused, or else the frame of the payload's fields, which an accepted payload has.
-use mathlib.Core.Path.{ap, ◌∙◌}
+use mathlib.Core.Path.{refl, ap, ◌∙◌}
 use Rattle.bits.specs.Bits.{fields}
+use Rattle.refusal.specs.Numbers.{number_not_0}
 use Rattle.celp.proofs.Refusals.{ready, stopped}
 use Rattle.celp.proofs.answered.Goals as goal
 
-pub spoilt-why-requires : goal.spoilt-why-requires
-spoilt-why-requires c =
-    let s = c.before.before.before.before in
+pub spoilt-requires : goal.spoilt-requires
+spoilt-requires c =
     record {
-      fact_1 = s.requires.fact_1.of_words;
-      fact_2 = s.requires.fact_3;
-      fact_3 = c.fields-f.ensures ∙ ap fields c.before.unpack.ensures.0;
+      fact_1 = c.requires.fact_1.of_words;
+      fact_2 = c.requires.fact_3;
+      fact_3 = c.fields-f.ensures ∙ ap fields c.unpack.ensures.0;
     }
 
-pub returns-then-why-ne0 : goal.returns-then-why-ne0
-returns-then-why-ne0 c =
-    let n = c.before.before in
-    let s = n.before.before.before.before.before in
-    let p = s.requires in
-    let r = stopped s.args.words.now s.args.bytes.now s.args.state s.args.payload.now s.args.samples.now p.fact_1 p.fact_2 p.fact_3 p.fact_4 n.spoilt-why.result n.spoilt-why.ensures c.before.if-why-ne0.true in
+pub returns-in-Err : goal.returns-in-Err
+returns-in-Err c =
+    let p = c.requires in
+    let r = stopped c.args.words.now c.args.bytes.now c.args.state c.args.payload.now c.args.samples.now p.fact_1 p.fact_2 p.fact_3 p.fact_4 _ c.in-Err.ensures (number_not_0 c.in-Err.why) in
     record {
-      answer = c.refused.ensures ∙ r.0;
+      answer = rw c.number.ensures at c.refused.ensures ∙ r.0;
       samples = r.1;
     }
 
 pub decode-d-requires : goal.decode-d-requires
 decode-d-requires c =
-    let n = c.before.before.before.before in
-    let s = n.before.before.before.before.before in
-    let p = s.requires in
-    let r = ready s.args.words.now s.args.bytes.now s.args.state s.args.payload.now s.args.samples.now p.fact_1 p.fact_2 p.fact_3 p.fact_4 n.spoilt-why.result n.spoilt-why.ensures n.before.fields-f.result c.before.before.before.if-why-ne0.false (n.before.fields-f.ensures ∙ ap fields n.before.before.unpack.ensures.0) in
+    let p = c.requires in
+    let r = ready c.args.words.now c.args.bytes.now c.args.state c.args.payload.now c.args.samples.now p.fact_1 p.fact_2 p.fact_3 p.fact_4 0 c.in-Ok.ensures c.fields-f.result refl (c.fields-f.ensures ∙ ap fields c.unpack.ensures.0) in
     record {
       fact_1 = p.fact_1;
       fact_2 = r.first_within;
@@ -38,14 +34,11 @@ decode-d-requires c =
       fact_5 = p.fact_4;
     }
 
-pub returns : goal.returns
-returns c =
-    let d = c.before.before in
-    let n = d.before.before.before.before.before in
-    let s = n.before.before.before.before.before in
-    let p = s.requires in
-    let r = ready s.args.words.now s.args.bytes.now s.args.state s.args.payload.now s.args.samples.now p.fact_1 p.fact_2 p.fact_3 p.fact_4 n.spoilt-why.result n.spoilt-why.ensures n.before.fields-f.result d.before.before.before.before.if-why-ne0.false (n.before.fields-f.ensures ∙ ap fields n.before.before.unpack.ensures.0) in
+pub returns-in-Ok : goal.returns-in-Ok
+returns-in-Ok c =
+    let p = c.requires in
+    let r = ready c.args.words.now c.args.bytes.now c.args.state c.args.payload.now c.args.samples.now p.fact_1 p.fact_2 p.fact_3 p.fact_4 0 c.in-Ok.ensures c.fields-f.result refl (c.fields-f.ensures ∙ ap fields c.unpack.ensures.0) in
     record {
-      answer = rw (c.accepted.ensures, d.decode-d.ensures.decoded, d.before.before.carried.ensures) r.answered;
-      samples = rw (d.decode-d.ensures.samples, d.before.before.carried.ensures) r.left;
+      answer = rw (c.accepted.ensures, c.decode-d.ensures.decoded, c.carried.ensures) r.answered;
+      samples = rw (c.decode-d.ensures.samples, c.carried.ensures) r.left;
     }

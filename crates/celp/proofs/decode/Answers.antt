@@ -34,38 +34,26 @@ module _ (words : List ℤ) (bytes : List ℕ) (s : State) (payload : List ℕ) 
 
 pub fault-requires : goal.fault-requires
 fault-requires c =
-    let k = c.before in
-    let z = k.before in
-    let s = z.before.before.before in
-    four s.args.words.now s.args.bytes.now s.args.state s.args.payload.now s.args.samples.now z.frame_sizes.result k.checked-why.result z.frame_sizes.ensures k.checked-why.ensures c.if-why-ne0.true
+    four c.args.words.now c.args.bytes.now c.args.state c.args.payload.now c.args.samples.now c.told-sizes.result c.checked-why.result (c.told-sizes.ensures ∙ c.frame_sizes.ensures) c.checked-why.ensures c.if-why-ne0.true
 
 pub returns-then-why-ne0 : goal.returns-then-why-ne0
 returns-then-why-ne0 c =
-    let k = c.before.before.before in
-    let z = k.before in
-    let s = z.before.before.before in
-    let r = stopped s.args.words.now s.args.bytes.now s.args.state s.args.payload.now s.args.samples.now z.frame_sizes.result k.checked-why.result z.frame_sizes.ensures k.checked-why.ensures c.before.before.if-why-ne0.true in
+    let r = stopped c.args.words.now c.args.bytes.now c.args.state c.args.payload.now c.args.samples.now c.told-sizes.result c.checked-why.result (c.told-sizes.ensures ∙ c.frame_sizes.ensures) c.checked-why.ensures c.if-why-ne0.true in
     record {
-      answer = c.refused.ensures ∙ rw c.before.fault.ensures r.0;
+      answer = c.refused.ensures ∙ rw c.fault.ensures r.0;
       samples = r.1;
     }
 
 pub answered-requires : goal.answered-requires
 answered-requires c =
-    let k = c.before.before in
-    let z = k.before in
-    let s = z.before.before.before in
-    let r = ready s.args.words.now s.args.bytes.now s.args.state s.args.payload.now s.args.samples.now z.frame_sizes.result k.checked-why.result z.frame_sizes.ensures k.checked-why.ensures c.before.if-why-ne0.false in
+    let r = ready c.args.words.now c.args.bytes.now c.args.state c.args.payload.now c.args.samples.now c.told-sizes.result c.checked-why.result (c.told-sizes.ensures ∙ c.frame_sizes.ensures) c.checked-why.ensures c.if-why-ne0.false in
     record { fact_1 = r.0; fact_2 = r.1.0; fact_3 = r.1.1.0; fact_4 = r.1.1.1 }
 
 pub returns : goal.returns
 returns c =
-    let a = c.before.answered in
-    let k = c.before.before.before.before in
-    let z = k.before in
-    let s = z.before.before.before in
-    let r = ready s.args.words.now s.args.bytes.now s.args.state s.args.payload.now s.args.samples.now z.frame_sizes.result k.checked-why.result z.frame_sizes.ensures k.checked-why.ensures c.before.before.before.if-why-ne0.false in
+    let s = c.args in
+    let r = ready s.words.now s.bytes.now s.state s.payload.now s.samples.now c.told-sizes.result c.checked-why.result (c.told-sizes.ensures ∙ c.frame_sizes.ensures) c.checked-why.ensures c.if-why-ne0.false in
     record {
-      answer = a.ensures.answer ∙ ap (decode s.args.words.now s.args.bytes.now s.args.state s.args.payload.now) (sym r.1.1.1);
-      samples = a.ensures.samples;
+      answer = c.answered.ensures.answer ∙ ap (decode s.words.now s.bytes.now s.state s.payload.now) (sym r.1.1.1);
+      samples = c.answered.ensures.samples;
     }

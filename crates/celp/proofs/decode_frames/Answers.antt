@@ -28,44 +28,33 @@ module _ (words : List ℤ) (bytes : List ℕ) (s : State) (payloads : List ℕ)
       let r = frames_right (length payloads) room answers (sym ez ∙ p.sizes_right) in
       (p.set_sound, (p.state_obeys, (r.0, r.1)))
 
-pub fault-told-requires : goal.fault-told-requires
-fault-told-requires c =
-    let k = c.before in
-    let z = k.before in
-    let s = z.before.before.before.before in
-    four s.args.words.now s.args.bytes.now s.args.state s.args.payloads.now (length s.args.samples.now) (length s.args.numbers.now) z.frames_sizes-sizes.result k.checked-number.result z.frames_sizes-sizes.ensures k.checked-number.ensures
+pub fault-rule-requires : goal.fault-rule-requires
+fault-rule-requires c =
+    four c.args.words.now c.args.bytes.now c.args.state c.args.payloads.now (length c.args.samples.now) (length c.args.numbers.now) c.told-sizes.result c.checked-number.result (c.told-sizes.ensures ∙ c.frames_sizes.ensures) c.checked-number.ensures
 
 pub returns-then-number-ne0 : goal.returns-then-number-ne0
 returns-then-number-ne0 c =
-    let k = c.before.before.before in
-    let z = k.before in
-    let s = z.before.before.before.before in
-    let f = is_refusal_lem s.args.words.now s.args.bytes.now s.args.state s.args.payloads.now (length s.args.samples.now) (length s.args.numbers.now) z.frames_sizes-sizes.result k.checked-number.result z.frames_sizes-sizes.ensures k.checked-number.ensures in
-    let r = frames_refused s.args.words.now s.args.bytes.now s.args.state s.args.payloads.now s.args.samples.now s.args.numbers.now k.checked-number.result f c.before.before.if-number-ne0.true in
+    let s = c.args in
+    let f = is_refusal_lem s.words.now s.bytes.now s.state s.payloads.now (length s.samples.now) (length s.numbers.now) c.told-sizes.result c.checked-number.result (c.told-sizes.ensures ∙ c.frames_sizes.ensures) c.checked-number.ensures in
+    let r = frames_refused s.words.now s.bytes.now s.state s.payloads.now s.samples.now s.numbers.now _ f c.if-number-ne0.true in
     record {
-      returned = rw (c.marked.ensures, c.before.fault-told.ensures) r.0;
+      returned = rw (c.marked.ensures, c.fault-rule.ensures) r.0;
       samples = r.1;
       numbers = r.2;
     }
 
 pub each-requires : goal.each-requires
 each-requires c =
-    let k = c.before.before.before.before in
-    let z = k.before in
-    let s = z.before.before.before.before in
-    let r = ready s.args.words.now s.args.bytes.now s.args.state s.args.payloads.now (length s.args.samples.now) (length s.args.numbers.now) z.frames_sizes-sizes.result k.checked-number.result z.frames_sizes-sizes.ensures k.checked-number.ensures c.before.before.before.if-number-ne0.false in
-    record { fact_1 = c.before.before.are_words.ensures; fact_2 = r.0; fact_3 = r.1.0; fact_4 = r.1.1.0; fact_5 = r.1.1.1 }
+    let r = ready c.args.words.now c.args.bytes.now c.args.state c.args.payloads.now (length c.args.samples.now) (length c.args.numbers.now) c.told-sizes.result c.checked-number.result (c.told-sizes.ensures ∙ c.frames_sizes.ensures) c.checked-number.ensures c.if-number-ne0.false in
+    record { fact_1 = c.are_words.ensures; fact_2 = r.0; fact_3 = r.1.0; fact_4 = r.1.1.0; fact_5 = r.1.1.1 }
 
 pub returns : goal.returns
 returns c =
-    let e = c.before.before.before in
-    let k = e.before.before.before.before.before in
-    let z = k.before in
-    let s = z.before.before.before.before in
-    let f = is_refusal_lem s.args.words.now s.args.bytes.now s.args.state s.args.payloads.now (length s.args.samples.now) (length s.args.numbers.now) z.frames_sizes-sizes.result k.checked-number.result z.frames_sizes-sizes.ensures k.checked-number.ensures in
-    let r = frames_accepted s.args.words.now s.args.bytes.now s.args.state s.args.payloads.now s.args.samples.now s.args.numbers.now (sym f ∙ e.before.before.before.before.if-number-ne0.false) in
+    let s = c.args in
+    let f = is_refusal_lem s.words.now s.bytes.now s.state s.payloads.now (length s.samples.now) (length s.numbers.now) c.told-sizes.result c.checked-number.result (c.told-sizes.ensures ∙ c.frames_sizes.ensures) c.checked-number.ensures in
+    let r = frames_accepted s.words.now s.bytes.now s.state s.payloads.now s.samples.now s.numbers.now (sym f ∙ c.if-number-ne0.false) in
     record {
-      returned = rw e.each.ensures.state r.0;
-      samples = e.each.ensures.samples ∙ r.1;
-      numbers = e.each.ensures.numbers ∙ r.2;
+      returned = rw c.each.ensures.state r.0;
+      samples = c.each.ensures.samples ∙ r.1;
+      numbers = c.each.ensures.numbers ∙ r.2;
     }

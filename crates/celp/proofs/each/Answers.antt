@@ -42,7 +42,7 @@ answered-a-requires c =
     }
 
 pub bounds-numbers-k : goal.bounds-numbers-k
-bounds-numbers-k c = let t = c.loop-k-test.true in t
+bounds-numbers-k c = let t = c.loop-k-test.true in let m = c.loop-k.invariant.numbers_long in omega arith
 
 pub loop-k-smaller : goal.loop-k-smaller
 loop-k-smaller c =

@@ -5,56 +5,59 @@ use Rattle.stream.specs.Machine.{streamed_none, streamed_more, streamed_quiet, s
 use Rattle.stream.specs.Room.{tail_back, counts}
 use Rattle.channel_lines.specs.Feed.{standing, credit, ended, fed_chunk, turn_fits, fed_newline, fed_other, newline_paid, other_paid}
 use Rattle.channels.proofs.feed.Goals as goal
+use Rattle.channels.proofs.feed.Goals.{then-b-eq10, else-b-eq10}
 
-pub loop-at-init : goal.loop-at-init
-loop-at-init c = streamed_none _ _ credit 32 _ _ _
+pub loop-b-init : goal.loop-b-init
+loop-b-init c = streamed_none _ _ credit 32 _ _ _
 
 pub slice_bounds-end_line-count : goal.slice_bounds-end_line-count
 slice_bounds-end_line-count c =
-    let f = turn_fits _ _ c.loop-at.invariant c.requires in
+    let f = turn_fits _ _ c.loop-b.invariant c.requires in
     omega arith
 
 pub slice_bounds-end_line-start : goal.slice_bounds-end_line-start
 slice_bounds-end_line-start c =
-    let f = turn_fits _ _ c.loop-at.invariant c.requires in
+    let f = turn_fits _ _ c.loop-b.invariant c.requires in
     omega arith
 
 pub end_line-ended-requires : goal.end_line-ended-requires
 end_line-ended-requires c =
-    let f = turn_fits _ _ c.loop-at.invariant c.requires in
+    let f = turn_fits _ _ c.loop-b.invariant c.requires in
     simp (length-take, length-drop) (omega arith)
 
 pub overflow_add-n : goal.overflow_add-n
 overflow_add-n c =
-    let f = turn_fits _ _ c.loop-at.invariant c.requires in
+    let f = turn_fits _ _ c.loop-b.invariant c.requires in
     let m = c.end_line-ended.ensures.fits in
     omega arith
 
-pub loop-at-preserved-then-b-eq10 : goal.loop-at-preserved-then-b-eq10
+pub loop-b-preserved : goal.loop-b-preserved
 unfolding ended
-loop-at-preserved-then-b-eq10 c =
-    let f = turn_fits _ _ c.loop-at.invariant c.requires in
+loop-b-preserved c =
+    let l = c.loop-b in
     let s = c.args in
-    let r = standing c.loop-at.channels c.loop-at.line in
-    let k = fed_newline s.words.now s.bytes.now r c.if-b-eq10.true in
-    let h = c.end_line-ended.ensures in
-    streamed_more _ _ credit 32 c.loop-at.invariant c.loop-at-test.true (rw (k.0, h.ended, c.empty-line.ensures)) (rw (k.1, h.ended)) (rw k.1 (tail_back c.loop-at.room _ c.loop-at.n _ (omega arith) (omega arith) h.text)) (rw c.empty-line.ensures (newline_paid c.loop-at.line c.loop-at.n c.end_line-ended.result.n h.paid))
-
-pub loop-at-preserved : goal.loop-at-preserved
-loop-at-preserved c =
-    let s = c.args in
-    let k = fed_other s.words.now s.bytes.now (standing c.loop-at.channels c.loop-at.line) c.if-b-eq10.false in
-    streamed_quiet _ _ credit 32 c.loop-at.invariant c.loop-at-test.true (rw (k.0, c.push-line.ensures)) k.1 (rw c.push-line.ensures (other_paid c.loop-at.line _))
+    let f = turn_fits _ _ l.invariant c.requires in
+    elim c.if-b-eq10.branch [
+      | then-b-eq10 w ↦
+          let k = fed_newline s.words.now s.bytes.now (standing l.channels l.line) w.if-b-eq10.true in
+          let h = w.end_line-ended.ensures in
+          rw (w.room-is, w.channels-is, w.line-is, w.n-is)
+          (streamed_more _ _ credit 32 l.invariant c.loop-b-test.true (rw (k.0, h.ended, w.empty-line.ensures)) (rw (k.1, h.ended)) (rw k.1 (tail_back l.room _ l.n _ (omega arith) (omega arith) h.text)) (rw w.empty-line.ensures (newline_paid l.line l.n w.end_line-ended.result.n h.paid)))
+      | else-b-eq10 w ↦
+          let k = fed_other s.words.now s.bytes.now (standing l.channels l.line) w.if-b-eq10.false in
+          rw (w.room-is, w.channels-is, w.line-is, w.n-is)
+          (streamed_quiet _ _ credit 32 l.invariant c.loop-b-test.true (rw (k.0, w.push-line.ensures)) k.1 (rw w.push-line.ensures (other_paid l.line _)))
+    ]
 
 pub shape_of-room : goal.shape_of-room
 shape_of-room c =
-    (turn_fits _ _ c.loop-at.invariant c.requires).1
+    (turn_fits _ _ c.loop-b.invariant c.requires).1
 
 pub returns : goal.returns
 unfolding fed_chunk
 returns c =
-    let e = streamed_end _ _ credit 32 c.loop-at.invariant c.loop-at-test.false in
-    let f = turn_fits _ _ c.loop-at.invariant c.requires in
+    let e = streamed_end _ _ credit 32 c.loop-b.invariant c.loop-b-test.false in
+    let f = turn_fits _ _ c.loop-b.invariant c.requires in
     record {
       fed = rw (e.0, e.1);
       text = e.2;

@@ -12,10 +12,10 @@ use Rattle.tables.specs.SoundWords.{pulses_within}
 use Rattle.code_index.specs.Codebook as Codebook
 use Rattle.code_index.proofs.Digits.{found_none, found_more, found_end, small}
 use Rattle.code_index.proofs.decompose.Goals as goal
-use Rattle.code_index.proofs.decompose.Goals.{After-pulses-k}
+use Rattle.code_index.proofs.decompose.Goals.{After-pulses-n}
 
 -- 2 or 3 pulses
-module _ (c : goal.After-pulses-k) where
+module _ (c : goal.After-pulses-n) where
   abbrev words : List ℤ
   words = c.before.args.words.now
 
@@ -44,13 +44,13 @@ pub overflow_shr-x : goal.overflow_shr-x
 overflow_shr-x c = omega (arith, at_most c)
 
 pub overflow_cast-x-2 : goal.overflow_cast-x-2
-overflow_cast-x-2 c = rw c.pulses-k.ensures (record { sfits = omega (arith, start_lt c) })
+overflow_cast-x-2 c = rw c.pulses-n.ensures (record { sfits = omega (arith, start_lt c) })
 
 pub loop-k-init : goal.loop-k-init
-loop-k-init c = rw (c.pulses-k.ensures, to_z_pos w16 (rest c / 2 ^ n c) (omega (arith, start_lt c))) (found_none (words c) (class c) (rest c) (at_least c) (at_most c))
+loop-k-init c = rw (c.pulses-n.ensures, to_z_pos w16 (rest c / 2 ^ n c) (omega (arith, start_lt c))) (found_none (words c) (class c) (rest c) (at_least c) (at_most c))
 
-pub remainder-p-requires : goal.remainder-p-requires
-remainder-p-requires c = record {
+pub remainder-requires : goal.remainder-requires
+remainder-requires c = record {
   fact_1 = c.before.before.before.requires.fact_1.words_long;
   fact_2 = c.before.before.before.requires.fact_2;
   fact_3 = omega (arith, at_most c.before.before);
@@ -74,7 +74,7 @@ loop-k-preserved c =
     let l = c.before.before.before in
     let s = l.before in
     found_more (words s) (class s) (rest s) l.loop-k.k (to_z w16 l.loop-k.x-bits) _ _ l.loop-k.positions (omega arith) (at_most s) l.loop-k.invariant
-    (back w16 c.before.remainder-p.result c.before.remainder-p.type_inv ∙ c.before.remainder-p.ensures)
+    (back w16 c.before.remainder.result c.before.remainder.type_inv ∙ c.before.remainder.ensures)
     (back w16 c.quotient-x.result c.quotient-x.type_inv ∙ c.quotient-x.ensures)
 
 pub returns : goal.returns

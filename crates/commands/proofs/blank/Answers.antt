@@ -1,30 +1,29 @@
--- The first place that passes the test.
-use Prim.Native.Nat.{◌-◌}
-use mathlib.Core.Path.{◌≡◌, sym, ap, ◌∙◌}
-use native.Mathlib.Omega.{arith}
-use borrow.Author.Tests.{eq-eqb, ne_eqb}
-use lib.ListN.{length}
-use Rattle.sequence.specs.First.{first_from, first_more, first_found, first_none}
+-- The library's place is the definition's.
+use borrow.Author.Rules.{rules}
+use borrow.Author.Tests.{tests, eq-eqb, ne_eqb}
+use Rattle.std.specs.List.{position_or_len}
+use Rattle.std.proofs.Common.{◌≡◌, ◌≢◌, ◌∙◌, ◌+◌, ℕ, refl, sym, arith, eqb, List, ◌∷◌}
+use Rattle.std.proofs.lemmas.Iterator.{YieldsList-from_slice, IsFirst-from_position, index_from_first}
 use Rattle.stream.specs.Room.{counts}
-use Rattle.commands.specs.Commands.{blank}
-use Rattle.commands.proofs.blank.Invariants.{is}
+use Rattle.commands.specs.Commands.{blank_is, blank_le}
 use Rattle.commands.proofs.blank.Goals as goal
 
-pub loop-i-init : goal.loop-i-init
-unfolding blank
-loop-i-init c =
-    let n = length c.args.text.now in
-    let e : n - 0 ≡ n = omega arith in
-    (omega arith, ap (first_from (is c.args.text.now) 0) (sym e))
+before : List ℕ → ℕ
+before text = position_or_len (λ b. eqb b 32) text
 
-pub returns-then-text-i-eq32 : goal.returns-then-text-i-eq32
-returns-then-text-i-eq32 c =
-    (sym (c.loop-i.invariant.1 ∙ first_found (is c.args.text.now) c.loop-i.i _ (omega (arith, c.loop-i-test.true)) (eq-eqb _ _ c.if-text-i-eq32.true)), counts _ _ c.loop-i.invariant.0)
+hit : (b : ℕ) (bs : List ℕ) → b ≡ 32 → before (b ∷ bs) ≡ 0
+unfolding before
+hit b bs e = rw (eq-eqb b 32 e)
 
-pub loop-i-preserved : goal.loop-i-preserved
-loop-i-preserved c =
-    (omega (arith, c.loop-i-test.true), c.loop-i.invariant.1 ∙ first_more (is c.args.text.now) c.loop-i.i _ (omega (arith, c.loop-i-test.true)) (ne_eqb _ _ c.if-text-i-eq32.false))
+miss : (b : ℕ) (bs : List ℕ) → b ≢ 32 → before (b ∷ bs) ≡ before bs + 1
+unfolding before
+miss b bs e = rw (ne_eqb b 32 e) (omega arith)
 
 pub returns : goal.returns
+unfolding before
 returns c =
-    (sym (c.loop-i.invariant.1 ∙ first_none (is c.args.text.now) c.loop-i.i _ (omega (arith, c.loop-i-test.false))), counts _ _ c.loop-i.invariant.0)
+    let text = c.args.text.now in
+    let first = IsFirst-from_position _ _ c.position.result (λ b. b ≡ 32) (λ b. b ≢ 32) c.position.ensures.ran (YieldsList-from_slice text c.iter.ensures.rest) (λ x q k. search (rules, tests)) (λ x q k. search (rules, tests)) in
+    let e = c.unwrap_or.ensures ∙ sym (index_from_first before (λ b. b ≡ 32) (λ b. b ≢ 32) refl hit miss text c.position.result first) ∙ blank_is text in
+    let h = blank_le text in
+    (e, counts _ _ (omega arith))

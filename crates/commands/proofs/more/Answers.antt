@@ -14,8 +14,8 @@ returns-then-c-gt57 c = (rw (le-ltb _ 48 c.if-c-lt48.false, lt-ltb 57 _ c.if-c-g
 
 pub returns-then-m-lt-NONE : goal.returns-then-m-lt-NONE
 unfolding more
-returns-then-m-lt-NONE c = (rw (le-ltb _ 48 c.if-c-lt48.false, le-ltb 57 _ c.if-c-gt57.false) (omega (arith, c.if-m-lt-NONE.true)), omega (arith, c.if-m-lt-NONE.true))
+returns-then-m-lt-NONE c = (rw (le-ltb _ 48 c.if-c-lt48.false, le-ltb 57 _ c.if-c-gt57.false) (omega (arith, c.from.ensures, c.if-m-lt-NONE.true)), omega (arith, c.if-m-lt-NONE.true))
 
 pub returns-else-m-lt-NONE : goal.returns-else-m-lt-NONE
 unfolding more
-returns-else-m-lt-NONE c = (rw (le-ltb _ 48 c.if-c-lt48.false, le-ltb 57 _ c.if-c-gt57.false) (omega (arith, c.if-m-lt-NONE.false)), omega arith)
+returns-else-m-lt-NONE c = (rw (le-ltb _ 48 c.if-c-lt48.false, le-ltb 57 _ c.if-c-gt57.false) (omega (arith, c.from.ensures, c.if-m-lt-NONE.false)), omega arith)

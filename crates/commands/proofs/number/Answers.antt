@@ -1,5 +1,4 @@
 -- What is left to read goes on from the number so far.
-use borrow.Author.Rules.{rules}
 use Prim.Native.Nat.{suc}
 use mathlib.Core.Path.{refl, sym, ap, ◌∙◌}
 use native.Mathlib.Numerals.{add-one}
@@ -12,21 +11,21 @@ use Rattle.commands.proofs.number.Goals as goal
 pub returns-then-text-eq0 : goal.returns-then-text-eq0
 returns-then-text-eq0 c = (sym (number_none _ c.if-text-eq0.true), omega arith)
 
-pub loop-i-init : goal.loop-i-init
-loop-i-init c = (omega arith, (omega arith, refl))
+pub loop-c-init : goal.loop-c-init
+loop-c-init c = (omega arith, refl)
 
 pub more-v-requires : goal.more-v-requires
-more-v-requires c = c.loop-i.invariant.1.0
+more-v-requires c = c.loop-c.invariant.0
 
-pub loop-i-preserved : goal.loop-i-preserved
-loop-i-preserved c =
+pub loop-c-preserved : goal.loop-c-preserved
+loop-c-preserved c =
     let l = c.args.text.now in
-    let d = drop-cons l c.loop-i.i 0 c.loop-i-test.true in
-    let e = c.loop-i.invariant.1.1 ∙ ap (number_from c.loop-i.v) d ∙ number_more c.loop-i.v _ (drop (suc c.loop-i.i) l) in
-    (search rules, (c.more-v.ensures.1, rw (add-one c.loop-i.i, c.more-v.ensures.0) e))
+    let i = c.loop-c.c-index in
+    let e = c.loop-c.invariant.1 ∙ ap (number_from c.loop-c.v) (drop-cons l i 0 c.loop-c-test.true) ∙ number_more c.loop-c.v _ (drop (suc i) l) in
+    (c.more-v.ensures.1, rw (add-one i, c.more-v.ensures.0) e)
 
 pub returns : goal.returns
 returns c =
     let l = c.args.text.now in
-    let z = c.loop-i.invariant.1.1 ∙ ap (number_from c.loop-i.v) (drop_of_length-le l {i = c.loop-i.i} c.loop-i-test.false) ∙ number_end c.loop-i.v in
-    (sym (number_some l c.if-text-eq0.false ∙ z), c.loop-i.invariant.1.0)
+    let z = c.loop-c.invariant.1 ∙ ap (number_from c.loop-c.v) (drop_of_length-le l {i = c.loop-c.c-index} c.loop-c-test.false) ∙ number_end c.loop-c.v in
+    (sym (number_some l c.if-text-eq0.false ∙ z), c.loop-c.invariant.0)

@@ -44,4 +44,4 @@ returns-then-starts c =
 pub returns : goal.returns
 unfolding command
 returns c =
-    rw (← c.argument-s.ensures.0, le-ltb _ _ c.if-s-lt-NONE.false, ← c.argument-h.ensures.0, le-ltb _ _ c.if-h-lt-NONE.false, ← c.argument-g.ensures.0, le-ltb _ _ c.if-g-lt-NONE.false, ← c.argument-k.ensures.0, le-ltb _ _ c.if-k-lt-NONE.false, ← c.starts.ensures, c.if-starts.false, c.unknown.ensures)
+    rw (← c.argument-s.ensures.0, le-ltb _ _ c.if-s-lt-NONE.false, ← c.argument-h.ensures.0, le-ltb _ _ c.if-h-lt-NONE.false, ← c.argument-g.ensures.0, le-ltb _ _ c.if-g-lt-NONE.false, ← c.argument-k.ensures.0, le-ltb _ _ c.if-k-lt-NONE.false, ← c.starts.ensures, c.if-starts.false)

@@ -10,12 +10,12 @@ use Rattle.commands.proofs.playing.Goals as goal
 
 pub returns-then-text-b : goal.returns-then-text-b
 unfolding playing
-returns-then-text-b c = rw (← c.blank-b.ensures.0, c.unknown.ensures, le-ltb _ _ c.if-text-b.true)
+returns-then-text-b c = rw (← c.blank-b.ensures.0, le-ltb _ _ c.if-text-b.true)
 
 pub returns-then-k-eq-NONE : goal.returns-then-k-eq-NONE
 unfolding playing
 returns-then-k-eq-NONE c =
-    rw (← c.blank-b.ensures.0, c.unknown-then-k-eq-NONE.ensures, lt-ltb _ _ c.if-text-b.false, ← c.number-k.ensures.0, eq-eqb _ _ c.if-k-eq-NONE.true)
+    rw (← c.blank-b.ensures.0, lt-ltb _ _ c.if-text-b.false, ← c.number-k.ensures.0, eq-eqb _ _ c.if-k-eq-NONE.true)
 
 pub returns-then-n-eq-NONE : goal.returns-then-n-eq-NONE
 unfolding playing
@@ -24,7 +24,7 @@ returns-then-n-eq-NONE c =
     let a = c.blank-b.result + 1 in
     let w = take_all (length l - a) (drop a l) (omega (arith, length-drop a l)) in
     let z = c.number-n.ensures.0 ∙ ap number w in
-    rw (← c.blank-b.ensures.0, c.unknown-then-n-eq-NONE.ensures, lt-ltb _ _ c.if-text-b.false, ← c.number-k.ensures.0, ne_eqb _ _ c.if-k-eq-NONE.false, ← z, eq-eqb _ _ c.if-n-eq-NONE.true)
+    rw (← c.blank-b.ensures.0, lt-ltb _ _ c.if-text-b.false, ← c.number-k.ensures.0, ne_eqb _ _ c.if-k-eq-NONE.false, ← z, eq-eqb _ _ c.if-n-eq-NONE.true)
 
 pub returns : goal.returns
 unfolding playing

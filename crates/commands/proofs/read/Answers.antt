@@ -12,7 +12,7 @@ use Rattle.commands.proofs.read.Goals as goal
 
 pub returns-then-line-gt40 : goal.returns-then-line-gt40
 unfolding held_line shown command argument starts
-returns-then-line-gt40 c = rw (c.unknown.ensures, lt-leb _ 40 c.if-line-gt40.true)
+returns-then-line-gt40 c = rw (lt-leb _ 40 c.if-line-gt40.true)
 
 pub slice_bounds-text-end : goal.slice_bounds-text-end
 slice_bounds-text-end c =

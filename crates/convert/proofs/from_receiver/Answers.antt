@@ -8,24 +8,21 @@ use Rattle.convert.proofs.Lines.{accepted_line, refused_line}
 use Rattle.convert.proofs.from_receiver.Goals as goal
 
 pub slice_bounds-hexadecimal-end : goal.slice_bounds-hexadecimal-end
-slice_bounds-hexadecimal-end c = sym (rw c.read.ensures.2 (taken_long _ (replicate 20 0) refl))
+slice_bounds-hexadecimal-end c = sym (rw c.read.ensures.payload (taken_long _ (replicate 20 0) refl))
 
 pub hexadecimal-requires : goal.hexadecimal-requires
-hexadecimal-requires c = rw c.read.ensures.2 (taken_long _ (replicate 20 0) refl)
+hexadecimal-requires c = rw c.read.ensures.payload (taken_long _ (replicate 20 0) refl)
 
-pub returns-in-Accepted : goal.returns-in-Accepted
+pub returns-in-Ok : goal.returns-in-Ok
 unfolding taken from_receiver
-returns-in-Accepted c =
-    let w = c.in-Accepted.ensures in
+returns-in-Ok c =
+    let w = c.in-Ok.ensures in
     let l = c.args.line.now in
-    let k = accepted_line (read_number l) (hexadecimal (frame_of l)) w.0 in
-    let e : taken l (replicate 20 0) ≡ frame_of l = rw k.0 in
-    rw k.1 (rw (c.hexadecimal.ensures, w.2, e) at c.put_line.ensures)
+    let e : taken l (replicate 20 0) ≡ frame_of l = rw (sym w.number) in
+    rw (accepted_line (read_number l) (hexadecimal (frame_of l)) w.number) (rw (c.hexadecimal.ensures, w.payload, e) at c.put_line.ensures)
 
-pub returns-in-Refused : goal.returns-in-Refused
+pub returns-in-Err : goal.returns-in-Err
 unfolding from_receiver
-returns-in-Refused c =
-    let w = c.in-Refused.ensures in
+returns-in-Err c =
     let l = c.args.line.now in
-    let k = refused_line (read_number l) c.in-Refused.number (hexadecimal (frame_of l)) w.0 in
-    rw k c.put_refused.ensures
+    rw (refused_line (read_number l) c.in-Err.why (hexadecimal (frame_of l)) c.in-Err.ensures.number) c.put_refused.ensures

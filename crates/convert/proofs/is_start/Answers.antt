@@ -1,15 +1,23 @@
--- The three tests are the definition's.
-use borrow.Author.Tests.{eq-eqb, ne_eqb}
+-- The line that is compared has one byte.
+use Rattle.std.specs.Prelude.{◌≡◌, refl, Bool, true, false, ◌&&◌, List, [], ◌∷◌, ℕ, eqb, length}
+use Rattle.std.proofs.Common.{◌∙◌, ne_eqb, arith}
+use lib.Pointwise.{pointwise}
 use Rattle.hex_lines.specs.Text.{is_only}
 use Rattle.convert.proofs.is_start.Goals as goal
 
-pub returns-then-not-first : goal.returns-then-not-first
-returns-then-not-first c = rw c.if-not-first.true
+whole : (b : Bool) → b && true ≡ b
+whole true = refl
+whole false = refl
 
-pub returns-then-line-ne1 : goal.returns-then-line-ne1
-unfolding is_only
-returns-then-line-ne1 c = rw (c.if-not-first.false, ne_eqb _ 1 c.if-line-ne1.true)
+none : (b : Bool) → b && false ≡ false
+none true = refl
+none false = refl
 
-pub returns : goal.returns
+one : (l : List ℕ) (b : ℕ) → pointwise eqb l (b ∷ []) ≡ is_only b l
 unfolding is_only
-returns c = rw (c.if-not-first.false, eq-eqb _ 1 c.if-line-ne1.false)
+one [] b = refl
+one (x ∷ []) b = whole (eqb x b)
+one (x ∷ y ∷ l) b = none (eqb x b) ∙ rw (ne_eqb (length (x ∷ y ∷ l)) 1 (λ e. omega arith))
+
+pub returns-then-first : goal.returns-then-first
+returns-then-first c = rw (c.if-first.true, c.eq.ensures, c.as_slice.ensures) (one c.args.line.now 43)

@@ -8,26 +8,23 @@ use Rattle.convert.proofs.Lines.{accepted_line, refused_line}
 use Rattle.convert.proofs.put_digits.Goals as goal
 
 pub slice_bounds-put_line-end : goal.slice_bounds-put_line-end
-slice_bounds-put_line-end c = sym (rw c.write.ensures.2 (written_long _ (replicate 162 48) refl))
+slice_bounds-put_line-end c = sym (rw c.write.ensures.line (written_long _ (replicate 162 48) refl))
 
 pub put_line-requires : goal.put_line-requires
 put_line-requires c =
     let w = written_long c.args.payload (replicate 162 48) refl in
-    rw c.write.ensures.2 (omega arith)
+    rw c.write.ensures.line (omega arith)
 
-pub returns-in-Accepted : goal.returns-in-Accepted
+pub returns-in-Ok : goal.returns-in-Ok
 unfolding written
-returns-in-Accepted c =
-    let w = c.in-Accepted.ensures in
+returns-in-Ok c =
+    let w = c.in-Ok.ensures in
     let q = c.args.payload in
-    let k = accepted_line (write_number q) (line_of q) w.0 in
     let p = c.put_line.ensures in
-    let e : written q (replicate 162 48) ≡ line_of q = rw k.0 in
-    rw k.1 (rw (w.2, e) at p)
+    let e : written q (replicate 162 48) ≡ line_of q = rw (sym w.number) in
+    rw (accepted_line (write_number q) (line_of q) w.number) (rw (w.line, e) at p)
 
-pub returns-in-Refused : goal.returns-in-Refused
-returns-in-Refused c =
-    let w = c.in-Refused.ensures in
+pub returns-in-Err : goal.returns-in-Err
+returns-in-Err c =
     let q = c.args.payload in
-    let k = refused_line (write_number q) c.in-Refused.number (line_of q) w.0 in
-    rw k c.put_refused.ensures
+    rw (refused_line (write_number q) c.in-Err.why (line_of q) c.in-Err.ensures.number) c.put_refused.ensures

@@ -1,10 +1,14 @@
--- By the place: a field's low byte, or its high one.
-use mathlib.Core.Path.{◌∙◌}
-use Rattle.desk_fields.proofs.Outcomes.{low_byte, high_byte}
+-- A field's low byte, or its high one.
+use Rattle.std.specs.Prelude.{◌≡◌, refl, [], ◌∷◌, ℕ, zero, suc, ◌<◌, ◌%◌, cond, eqb, get_or}
+use Rattle.std.proofs.Common.{arith, mod-lt, lit<}
+use Rattle.desk_fields.specs.Fields.{byte_of}
 use Rattle.desk_fields.proofs.byte.Goals as goal
 
-pub returns-then-k-eq0 : goal.returns-then-k-eq0
-returns-then-k-eq0 c = let s = c.before in c.low.ensures ∙ low_byte s.args.fields.now s.args.k c.if-k-eq0.true
+either : (low high j : ℕ) → j < 2 → get_or (low ∷ high ∷ []) j 0 ≡ cond (eqb j 0) low high
+either low high zero h = refl
+either low high (suc zero) h = refl
+either low high (suc (suc j)) h = absurd (omega arith)
 
-pub returns-else-k-eq0 : goal.returns-else-k-eq0
-returns-else-k-eq0 c = let s = c.before in c.high.ensures ∙ high_byte s.args.fields.now s.args.k c.if-k-eq0.false
+pub returns : goal.returns
+unfolding byte_of
+returns c = rw c.to_le_bytes.ensures (either _ _ (c.args.k % 2) (mod-lt c.args.k (lit< tt)))

@@ -1,7 +1,6 @@
--- The two bytes at 2 · k.
-use mathlib.Core.Path.{◌∙◌}
+use Rattle.std.proofs.Common.{◌∙◌, arith}
 use Rattle.desk_fields.proofs.Outcomes.{two_bytes}
 use Rattle.desk_fields.proofs.field.Goals as goal
 
 pub returns : goal.returns
-returns c = let s = c.before in c.joined.ensures ∙ two_bytes s.args.fields.now s.args.k
+returns c = c.from_le_bytes.ensures ∙ omega arith ∙ two_bytes c.args.fields.now c.args.k

@@ -1,20 +1,12 @@
--- By turn k the first k records are read.
-use mathlib.Core.Path.{refl, ◌∙◌}
-use lib.ListN.{replicate}
-use Rattle.sequence.specs.Table.{written_none, written_more, written_end}
-use Rattle.slots.specs.Slots.{no_slot}
-use Rattle.slot_users.specs.Users.{SLOTS}
+-- The table of what each place holds.
+use borrow.Author.Rules.{rules}
+use Rattle.std.proofs.Common.{◌∙◌}
+use Rattle.sequence.specs.Made.{table_from_fn}
 use Rattle.desk_records.specs.Records.{record_at}
 use Rattle.desk_records.proofs.Loops.{all_read}
-use borrow.Author.Rules.{rules}
 use Rattle.desk_records.proofs.read_records.Goals as goal
 
-pub loop-k-init : goal.loop-k-init
-loop-k-init c = (search rules, written_none (record_at c.args.records.now) SLOTS (replicate SLOTS no_slot) refl)
-
-pub loop-k-preserved : goal.loop-k-preserved
-loop-k-preserved c =
-    (c.loop-k.invariant.0, written_more (record_at c.args.records.now) SLOTS _ c.loop-k.k _ c.loop-k.invariant.1 (search rules) c.record_at.ensures)
-
 pub returns : goal.returns
-returns c = written_end (record_at c.args.records.now) SLOTS _ c.loop-k.k c.loop-k.invariant.1 (search rules) ∙ all_read _ c.loop-k.invariant.0
+returns c =
+    let l = c.args.records.now in
+    table_from_fn (record_at l) c.from_fn.ensures.items (λ k y q h e. search rules) ∙ all_read l c.requires

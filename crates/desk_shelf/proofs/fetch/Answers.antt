@@ -1,4 +1,7 @@
 -- The lengths decide first; then the answer and the image are those of the call by value.
+use Rattle.std.proofs.Common.{Ok, Err, ap, ◌∙◌}
+use Rattle.image.specs.Image as Image
+use Rattle.shelf.specs.Answers.{fetched}
 use Rattle.desk_shelf.proofs.Outcomes.{fetch_eleven, fetch_twelve, fetch_told}
 use Rattle.desk_shelf.proofs.fetch.Goals as goal
 
@@ -14,8 +17,14 @@ returns-then-records-ne-RECORDS c =
     let t = fetch_twelve a.records.now a.images.now a.image.now a.slot c.if-image-ne-SIZE.false c.if-records-ne-RECORDS.true c.all_zero.result _ c.all_zero.ensures c.write.ensures in
     record { number = t.0; image = t.1 }
 
-pub returns : goal.returns
-returns c =
+pub returns-in-Ok : goal.returns-in-Ok
+returns-in-Ok c =
     let a = c.args in
-    let t = fetch_told a.records.now a.images.now a.image.now a.slot c.if-image-ne-SIZE.false c.read_records.result c.fetch_by_value-fetched.result _ c.read_records.ensures c.fetch_by_value-fetched.ensures c.write-2.ensures in
+    let t = fetch_told a.records.now a.images.now a.image.now a.slot c.if-image-ne-SIZE.false c.read_records.result (fetched (Ok c.in-Ok.state)) _ c.read_records.ensures c.in-Ok.ensures c.write-in-Ok.ensures in
+    record { number = t.0; image = t.1 }
+
+pub returns-in-Err : goal.returns-in-Err
+returns-in-Err c =
+    let a = c.args in
+    let t = fetch_told a.records.now a.images.now a.image.now a.slot c.if-image-ne-SIZE.false c.read_records.result (fetched (Err c.in-Err.why)) _ c.read_records.ensures c.in-Err.ensures (c.write-in-Err.ensures ∙ ap Image.image c.all_zero-in-Err.ensures) in
     record { number = t.0; image = t.1 }

@@ -1,5 +1,7 @@
--- The records' length decides first; then the answer and the records are those of the call by value.
-use lib.ListN.{length}
+-- The records' length decides first; then the answer and the records are those of the call on records.
+use Rattle.std.proofs.Common.{length, refl}
+use Rattle.std.proofs.lemmas.Result.{err_from_is_err_and}
+use Rattle.refusal.specs.Numbers.{number_not_0}
 use Rattle.desk_shelf.proofs.Outcomes.{hold_twelve, hold_refused, hold_taken}
 use Rattle.desk_shelf.proofs.hold.Goals as goal
 
@@ -9,14 +11,15 @@ returns-then-records-ne-RECORDS c =
     let t = hold_twelve a.records.now (length a.images.now) a.slot c.if-records-ne-RECORDS.true in
     record { number = t.0; records = t.1 }
 
-pub returns-then-held-ne0 : goal.returns-then-held-ne0
-returns-then-held-ne0 c =
+pub returns-in_err-hold : goal.returns-in_err-hold
+returns-in_err-hold c =
     let a = c.args in
-    let t = hold_refused a.records.now (length a.images.now) a.slot c.read_records.result _ _ c.read_records.ensures c.hold_by_value-held.ensures c.if-held-ne0.true in
-    record { number = t.0; records = t.1 }
+    let p = err_from_is_err_and c.from_residual.result c.from_residual.ensures.1 in
+    let t = hold_refused a.records.now (length a.images.now) a.slot c.read_records-slots.result _ _ c.read_records-slots.ensures c.in_err-hold.ensures (number_not_0 _) in
+    rw (p.1, p.2) (record { number = t.0; records = t.1 })
 
 pub returns : goal.returns
 returns c =
     let a = c.args in
-    let t = hold_taken a.records.now (length a.images.now) a.slot c.read_records.result _ _ c.read_records.ensures c.hold_by_value-held.ensures c.if-held-ne0.false _ c.write_records.ensures in
+    let t = hold_taken a.records.now (length a.images.now) a.slot c.read_records-slots.result _ _ c.read_records-slots.ensures c.in_ok-hold.ensures refl _ c.write_records.ensures in
     record { number = t.0; records = t.1 }

@@ -36,4 +36,4 @@ unfolding Excitation.pitch_continues
 returns-else-above_floor c =
     let b = c.before in
     let t : Excitation.above_floor (lag b.before) (previous b.before) ≡ false = sym (above_is b) ∙ c.if-above_floor.false in
-    simp t
+    c.if-above_floor.false ∙ simp t

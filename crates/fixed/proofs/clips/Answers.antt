@@ -11,7 +11,7 @@ pub returns-then-v-ltminus2147483648 : goal.returns-then-v-ltminus2147483648
 returns-then-v-ltminus2147483648 c =
     let f = c.before.ranges.v in
     let t : lt_z c.before.args.v (negsuc 2147483647) ≡ true = simp to_z-of_z at c.if-v-ltminus2147483648.true in
-    sym (clips_beyond c.before.args.v ∙ ap (λ (b : Bool). b || lt_z (pos 2147483647) c.before.args.v) t)
+    c.if-v-ltminus2147483648.true ∙ sym (clips_beyond c.before.args.v ∙ ap (λ (b : Bool). b || lt_z (pos 2147483647) c.before.args.v) t)
 
 pub returns-else-v-ltminus2147483648 : goal.returns-else-v-ltminus2147483648
 returns-else-v-ltminus2147483648 c =

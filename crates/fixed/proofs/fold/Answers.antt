@@ -1,5 +1,4 @@
 -- The wraps of the two terms change nothing of the sum's wrap, and their sum has 41 bits.
-use borrow.Author.Rules.{rules}
 use native.Mathlib.Omega.{arith}
 use mathlib.Core.Path.{◌≡◌, ◌∙◌}
 use lib.IntN.{ℤ, ◌+ℤ◌}

@@ -1,5 +1,4 @@
 -- Each half's product as its call gave it; together they are the one product.
-use borrow.Author.Rules.{rules}
 use mathlib.Core.Path.{◌≡◌, ◌∙◌}
 use lib.IntN.{ℤ}
 use lib.Signed.{shr_z}

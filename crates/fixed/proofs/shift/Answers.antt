@@ -1,5 +1,4 @@
 -- By the amount's sign: its low six bits are its remainder by 64, and a shift up drops bits that the accumulator does not have.
-use borrow.Author.Rules.{rules}
 use borrow.Author.Tests.{leb-false}
 use native.Mathlib.Omega.{arith}
 use native.Mathlib.Nat.{zero-add, mod-lt}

@@ -11,4 +11,4 @@ lsf_to_lsp-requires c = record {
 
 pub returns : goal.returns
 unfolding predicted
-returns c = rw (c.lsf_to_lsp.ensures, c.quantise_lsf.ensures, c.predict-lsf.ensures)
+returns c = rw (c.lsf_to_lsp.ensures, c.quantise_lsf.ensures, c.predict-lsf.ensures, c.from.ensures)

@@ -8,4 +8,4 @@ use lib.Pow.{shl_exact}
 use Rattle.frame_params.proofs.over.Goals as goal
 
 pub returns : goal.returns
-returns c = ap (λ (x : ℕ). leb x c.args.v) (shl_exact {a = 1} 1 c.args.w 32 (omega arith) (omega arith) ∙ one-mul (2 ^ c.args.w))
+returns c = rw c.from.ensures (ap (λ (x : ℕ). leb x c.args.v) (shl_exact {a = 1} 1 c.args.w 32 (omega arith) (omega arith) ∙ one-mul (2 ^ c.args.w)))

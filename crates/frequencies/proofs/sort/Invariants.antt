@@ -6,6 +6,3 @@ use Rattle.frequencies.proofs.sort.Given as goal
 
 abbrev pub invariant-loop-n : goal.invariant-loop-n
 invariant-loop-n l = (l.n ≤ 10) × (length l.initial.out ≡ 10) × (length l.out ≡ 10) × (l.out ≡ sorted_from l.initial.out l.n)
-
-abbrev pub decreases-loop-n : goal.decreases-loop-n
-decreases-loop-n l = l.n

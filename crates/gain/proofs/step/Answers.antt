@@ -17,15 +17,14 @@ use Rattle.gain.proofs.step.Goals as goal
 same : (p q a b : ℤ) (h : List Float) → p ≡ q → a ≡ b → ◌≡◌ {A = Decoded} (record { pitch_gain = p; code_gain = a; gains = h }) (record { pitch_gain = q; code_gain = b; gains = h })
 same p q a b h e f = λ i. record { pitch_gain = e i; code_gain = f i; gains = h }
 
-pub code_gain-code-requires : goal.code_gain-code-requires
-code_gain-code-requires c = rw c.argument.ensures (argument_carried _)
+pub code_gain-requires : goal.code_gain-requires
+code_gain-requires c = rw c.argument.ensures (argument_carried _)
 
 pub returns : goal.returns
 unfolding step
 returns c =
-    let b = c.before.before.before in
-    same _ _ _ _ _ (to_z-of_z w16 c.quantise-pitch.result (sfits_of c.quantise-pitch.type_inv) ∙ c.quantise-pitch.ensures)
-    (to_z-of_z w16 c.before.code_gain-code.result (sfits_of c.before.code_gain-code.type_inv)
-    ∙ c.before.code_gain-code.ensures
-    ∙ ap (λ (a : CodeGainArgument). pos (code_gain_of a)) c.before.before.argument.ensures
-    ∙ ap (λ (x : Float). pos (code_gain_of (argument (add x b.before.args.correction)))) b.prediction.ensures)
+    same _ _ _ _ _ (to_z-of_z w16 c.quantise.result (sfits_of c.quantise.type_inv) ∙ c.quantise.ensures)
+    (to_z-of_z w16 c.code_gain.result (sfits_of c.code_gain.type_inv)
+    ∙ c.code_gain.ensures
+    ∙ ap (λ (a : CodeGainArgument). pos (code_gain_of a)) c.argument.ensures
+    ∙ ap (λ (x : Float). pos (code_gain_of (argument (add x c.args.correction)))) c.prediction.ensures)

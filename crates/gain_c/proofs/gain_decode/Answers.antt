@@ -20,8 +20,8 @@ read z y e g =
 
 pub returns : goal.returns
 returns c =
-    let r = c.before.before.before.decode-d in
-    let a = c.before.before.before.before.before.before.args in
+    let r = c.decode-d in
+    let a = c.args in
     let g = decode_gains a.bytes.now a.gains.now a.index a.code.now in record {
       code_gain = read r.result.code_gain (decode a.bytes.now a.gains.now a.index a.code.now).code_gain (ap (λ (d : Decoded). d.code_gain) r.ensures) g.1;
       pitch_gain = read r.result.pitch_gain (decode a.bytes.now a.gains.now a.index a.code.now).pitch_gain (ap (λ (d : Decoded). d.pitch_gain) r.ensures) g.0;

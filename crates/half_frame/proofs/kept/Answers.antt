@@ -11,4 +11,4 @@ pub returns : goal.returns
 unfolding Spec.kept
 returns c =
     let e = c.args.exc.now in
-    c.copy.ensures ∙ take_all (314 - 160) (drop 160 e) (omega (arith, length-drop 160 e, c.requires))
+    c.copy_from_slice.ensures.after ∙ take_all (314 - 160) (drop 160 e) (omega (arith, length-drop 160 e, c.requires))

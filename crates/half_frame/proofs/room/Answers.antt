@@ -6,4 +6,4 @@ use Rattle.half_frame.proofs.room.Goals as goal
 
 pub returns : goal.returns
 unfolding Spec.room
-returns c = ap (λ (l : List ℤ). l ++ replicate 160 (pos 0)) c.copy.ensures
+returns c = ap (λ (l : List ℤ). l ++ replicate 160 (pos 0)) c.copy_from_slice.ensures.after

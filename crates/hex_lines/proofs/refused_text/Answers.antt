@@ -4,4 +4,4 @@ use Rattle.hex_lines.proofs.refused_text.Goals as goal
 
 pub returns : goal.returns
 unfolding refused_text
-returns c = rw c.digit-n.ensures
+returns c = rw c.digit.ensures

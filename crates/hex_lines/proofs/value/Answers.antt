@@ -10,11 +10,11 @@ returns-in-48-to-57 c = let x = c.args.c in rw (le-leb 48 x (omega arith), le-le
 
 pub returns-in-65-to-70 : goal.returns-in-65-to-70
 unfolding value
-returns-in-65-to-70 c = let x = c.args.c in rw (le-leb 48 x (omega arith), lt-leb x 57 (omega arith), lt-leb 97 x (omega arith), le-leb 65 x (omega arith), le-leb x 70 (omega arith))
+returns-in-65-to-70 c = let x = c.args.c in rw (le-leb 48 x (omega arith), lt-leb x 57 (omega arith), lt-leb 97 x (omega arith), le-leb 65 x (omega arith), le-leb x 70 (omega arith)) (omega arith)
 
 pub returns-in-97-to-102 : goal.returns-in-97-to-102
 unfolding value
-returns-in-97-to-102 c = let x = c.args.c in rw (le-leb 48 x (omega arith), lt-leb x 57 (omega arith), le-leb 97 x (omega arith), le-leb x 102 (omega arith))
+returns-in-97-to-102 c = let x = c.args.c in rw (le-leb 48 x (omega arith), lt-leb x 57 (omega arith), le-leb 97 x (omega arith), le-leb x 102 (omega arith)) (omega arith)
 
 pub returns-in_default : goal.returns-in_default
 unfolding value

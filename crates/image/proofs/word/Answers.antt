@@ -1,28 +1,14 @@
--- A number from 32,768 on stands for itself less 65,536: -1 less its bits' complement.
-use Prim.Native.Nat.{◌-◌, ◌+◌, ◌*◌}
-use lib.IntN.{negsuc}
+-- Two's complement, as the definition has it.
+use Rattle.std.specs.Prelude.{◌≡◌, ◌+◌, ◌*◌}
+use Rattle.std.proofs.Common.{◌∙◌, ap, arith}
 use mir.Syntax.{w16}
 use mir.Facts.{to_z-of_z}
 use borrow.Author.Rules.{sfits_of}
-use borrow.Author.Tests.{lt-ltb, le-ltb}
 use Rattle.image.specs.Image.{signed}
-use Rattle.image.proofs.Flipped.{minus_pos, low16}
-use native.Mathlib.Omega.{arith}
+use Rattle.image.proofs.Flipped.{signed16}
 use Rattle.image.proofs.word.Goals as goal
 
-pub overflow_sub-result-else-n-lt32768 : goal.overflow_sub-result-else-n-lt32768
-overflow_sub-result-else-n-lt32768 c =
-    let n = c.args.low + 256 * c.args.high in
-    rw (low16 (65535 - n) (omega arith), minus_pos) (sfits_of (omega arith))
-
-pub returns-then-n-lt32768 : goal.returns-then-n-lt32768
-unfolding signed
-returns-then-n-lt32768 c =
-    let n = c.args.low + 256 * c.args.high in
-    rw (lt-ltb n 32768 c.if-n-lt32768.true)
-
-pub returns-else-n-lt32768 : goal.returns-else-n-lt32768
-unfolding signed
-returns-else-n-lt32768 c =
-    let n = c.args.low + 256 * c.args.high in
-    rw (low16 (65535 - n) (omega arith), minus_pos, to_z-of_z {w = w16} {z = negsuc (65535 - n)} (sfits_of (omega arith)), le-ltb n 32768 c.if-n-lt32768.false)
+pub returns : goal.returns
+returns c =
+    let n : c.args.low + c.args.high * 256 ≡ c.args.low + 256 * c.args.high = omega arith in
+    to_z-of_z {w = w16} {z = c.from_le_bytes.result} (sfits_of c.from_le_bytes.type_inv) ∙ c.from_le_bytes.ensures ∙ signed16 _ ∙ ap (signed 2) n

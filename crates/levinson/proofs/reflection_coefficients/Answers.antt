@@ -11,27 +11,24 @@ use Rattle.reflection.specs.Reflection as Levinson
 use Rattle.reflection.specs.Zeros.{zeros_of, zeros_none, zeros_more, zeros_end, zeros_le}
 use Rattle.levinson.proofs.reflection_coefficients.Invariants.{turn}
 use Rattle.levinson.proofs.reflection_coefficients.Goals as goal
-use Rattle.levinson.proofs.reflection_coefficients.Goals.{After-k-in-loop-n-1}
+use Rattle.levinson.proofs.reflection_coefficients.Goals.{After-from-zeros}
 
 pub loop-n-init : goal.loop-n-init
 unfolding repeated
 loop-n-init c = (omega arith, search rules, refl, sym (zeros_none c.tail-k.result))
 
 -- the count after a turn
-counted : (c : goal.After-k-in-loop-n-1) → c.before.before.before.before.loop-n.zeros + c.before.step-zeros.result ≡ zeros_of c.before.before.before.before.before.tail-k.result (c.before.before.before.before.loop-n.n + 1)
+counted : (c : After-from-zeros) → c.loop-n.zeros + c.from-zeros.result ≡ zeros_of c.tail-k.result (c.loop-n.n + 1)
 counted c =
-    let l = c.before.before.before.before in
-    let n = l.loop-n.n in
-    let t : c.before.step-zeros.result ≡ Levinson.zero_residual (get_or (repeated turn n l.before.tail-k.result) (9 - n) (pos 0)) = c.before.step-zeros.ensures.zero ∙ ap (λ (k : List ℤ). Levinson.zero_residual (get_or k (9 - n) (pos 0))) l.loop-n.invariant.2 in
-    omega (arith, l.loop-n.invariant.3, t, zeros_more l.before.tail-k.result n)
+    let n = c.loop-n.n in
+    let t : c.from-zeros.result ≡ Levinson.zero_residual (get_or (repeated turn n c.tail-k.result) (9 - n) (pos 0)) = c.from-zeros.ensures ∙ c.step-is_zero.ensures.zero ∙ ap (λ (k : List ℤ). Levinson.zero_residual (get_or k (9 - n) (pos 0))) c.loop-n.invariant.2 in
+    omega (arith, c.loop-n.invariant.3, t, zeros_more c.tail-k.result n)
 
 pub overflow_add-zeros : goal.overflow_add-zeros
-overflow_add-zeros c = let l = c.before.before.before.before in omega (arith, counted c, zeros_le l.before.tail-k.result (l.loop-n.n + 1))
+overflow_add-zeros c = omega (arith, counted c, zeros_le c.tail-k.result (c.loop-n.n + 1))
 
 pub loop-n-preserved : goal.loop-n-preserved
-loop-n-preserved c =
-    let l = c.before.before.before.before in
-    (omega arith, search rules, repeated_again turn l.loop-n.n _ l.loop-n.invariant.2 c.before.step-zeros.ensures.numbers, counted c)
+loop-n-preserved c = (omega arith, search rules, repeated_again turn c.loop-n.n _ c.loop-n.invariant.2 c.step-is_zero.ensures.numbers, counted c)
 
 pub returns : goal.returns
 unfolding Levinson.reflection Levinson.reflection_coefficients

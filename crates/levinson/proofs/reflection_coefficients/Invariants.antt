@@ -13,6 +13,3 @@ turn n = Levinson.step (9 - n)
 
 abbrev pub invariant-loop-n : goal.invariant-loop-n
 invariant-loop-n l = (l.n ≤ 9) × (length l.k ≡ 10) × (l.k ≡ repeated turn l.n l.initial.k) × (l.zeros ≡ zeros_of l.initial.k l.n)
-
-abbrev pub decreases-loop-n : goal.decreases-loop-n
-decreases-loop-n l = 9 - l.n

@@ -67,5 +67,5 @@ returns c =
     let b = h.before.before.before in
     record {
       numbers = simp (kv_back b, inverse_is h, scale_got e) at c.before.before.update_all.ensures;
-      zero = c.zeros.ensures ∙ ap Fixed.zeros (got_is b) ∙ counted (kv b);
+      zero = c.is_zero.ensures ∙ ap Fixed.zeros (got_is b) ∙ counted (kv b);
     }

@@ -13,6 +13,3 @@ u top kv inverse scale k n = Levinson.updated kv inverse scale (get_or k n (pos 
 
 abbrev pub invariant-loop-n : goal.invariant-loop-n
 invariant-loop-n l = (l.n ≤ l.pairs) × (l.pairs ≡ (l.top + 1) / 2) × Paired (u l.top l.kv l.inverse l.scale l.initial.k) l.initial.k l.top l.k l.n
-
-abbrev pub decreases-loop-n : goal.decreases-loop-n
-decreases-loop-n l = l.pairs - l.n

@@ -1,12 +1,9 @@
--- Each arm by its test.
-use borrow.Author.Tests.{lt-ltb, le-ltb}
+-- The lesser of two numbers is chosen as the definition chooses.
+use Rattle.std.proofs.lemmas.Bool.Decides.{nat_tests}
+use native.Mathlib.Omega.{arith}
 use Rattle.lsp.specs.Lsp as Lsp
 use Rattle.lsp.proofs.entry.Goals as goal
 
-pub returns-then-e-gt63 : goal.returns-then-e-gt63
+pub returns : goal.returns
 unfolding Lsp.entry
-returns-then-e-gt63 c = simp (lt-ltb _ _ c.if-e-gt63.true)
-
-pub returns-else-e-gt63 : goal.returns-else-e-gt63
-unfolding Lsp.entry
-returns-else-e-gt63 c = simp (le-ltb _ _ c.if-e-gt63.false)
+returns c = grind (arith, nat_tests)

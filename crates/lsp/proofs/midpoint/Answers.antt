@@ -1,27 +1,11 @@
--- The loop writes the table of midpoints from its front.
+-- The array that the library makes is the table of its items.
 use borrow.Author.Rules.{rules}
-use native.Mathlib.Omega.{arith}
-use mathlib.Core.Path.{refl}
 use lib.IntN.{pos}
 use lib.ListN.{get_or}
-use mir.Syntax.{w16}
-use Rattle.sequence.specs.Table.{table, written_more, written_end}
-use Rattle.fixed.specs.Machine.{back}
+use Rattle.sequence.specs.Made.{table_from_fn}
 use Rattle.lsp.specs.Lsp as Lsp
 use Rattle.lsp.proofs.midpoint.Goals as goal
 
-pub loop-i-init : goal.loop-i-init
-unfolding table
-loop-i-init c = (omega arith, refl, refl)
-
-pub loop-i-preserved : goal.loop-i-preserved
-loop-i-preserved c =
-    let l = c.before.before.before.before in
-    let a = get_or l.before.args.first l.loop-i.i (pos 0) in
-    let b = get_or l.before.args.second l.loop-i.i (pos 0) in
-    written_more _ 10 l.loop-i.out l.loop-i.i _ l.loop-i.invariant (omega arith)
-    (cc (back w16 a (search rules), back w16 b (search rules), back w16 c.midway.result c.midway.type_inv))
-
 pub returns : goal.returns
 unfolding Lsp.midpoint
-returns c = written_end _ 10 c.before.loop-i.out c.before.loop-i.i c.before.loop-i.invariant (omega arith)
+returns c = table_from_fn (λ i. Lsp.midway (get_or c.args.first i (pos 0)) (get_or c.args.second i (pos 0))) c.from_fn.ensures.items (λ k y q h e. search rules)

@@ -15,7 +15,7 @@ returns c =
     let u = entry_found a.place a.line.now c.requires.fact_1 e g c.is_dash-dash.ensures in
     let v = equals_found a.place a.line.now c.requires.fact_1 e g in
     record {
-      place = ended_is a.place a.line.now a.ended c.next-after.ensures (c.is_only-equals.ensures ∙ v) (x.length ∙ ap length t) (y.length ∙ ap length u);
+      place = ended_is a.place a.line.now a.ended c.saturating_add.ensures (c.is_only-equals.ensures ∙ v) (x.length ∙ ap length t) (y.length ∙ ap length u);
       text = rw t at x.text;
       entry = rw u at y.text;
     }

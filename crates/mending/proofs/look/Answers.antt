@@ -1,23 +1,19 @@
 -- By byte i what the bytes before it leave.
-use mathlib.Core.Path.{ap, ◌∙◌}
-use native.Mathlib.Numerals.{add-one}
-use lib.ListN.{take, get_or}
-use lib.Seq.{take-suc, take_all}
+use Rattle.std.proofs.Common.{ap, ◌∙◌, add-one, take, get_or, take-suc, take_all}
 use Rattle.mending.specs.Repair.{cleaned, bare, any}
 use Rattle.mending.specs.Look as Look
-use borrow.Author.Rules.{rules}
 use Rattle.mending.specs.Looked.{looked_more}
 use Rattle.mending.proofs.look.Goals as goal
 
-pub loop-i-init : goal.loop-i-init
+pub loop-b-init : goal.loop-b-init
 unfolding Look.found cleaned bare any
-loop-i-init c = (search rules, rw c.empty-none.ensures)
+loop-b-init c = rw c.empty.ensures
 
-pub loop-i-preserved : goal.loop-i-preserved
-loop-i-preserved c =
+pub loop-b-preserved : goal.loop-b-preserved
+loop-b-preserved c =
     let l = c.args.line.now in
-    (search rules, c.look_at-found.ensures ∙ rw (c.loop-i.invariant.1, add-one, take-suc l c.loop-i.i 0 c.loop-i-test.true) (looked_more (take c.loop-i.i l) (get_or l c.loop-i.i 0)))
+    let i = c.loop-b.b-index in
+    c.look_at-found.ensures ∙ rw (c.loop-b.invariant, add-one, take-suc l i 0 c.loop-b-test.true) (looked_more (take i l) (get_or l i 0))
 
 pub returns : goal.returns
-returns c =
-    c.loop-i.invariant.1 ∙ ap Look.found (take_all c.loop-i.i c.args.line.now c.loop-i-test.false)
+returns c = c.loop-b.invariant ∙ ap Look.found (take_all c.loop-b.b-index c.args.line.now c.loop-b-test.false)

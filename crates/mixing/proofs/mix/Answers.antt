@@ -17,7 +17,7 @@ use Rattle.fixed.specs.Machine.{back}
 use Rattle.half.specs.Core as Spec
 use Rattle.mixing.proofs.Mixing.{none_mixed, part_clipped}
 use Rattle.mixing.proofs.mix.Goals as goal
-use Rattle.mixing.proofs.mix.Goals.{After-loop-n, After-mixed-y, At-loop-n, Start}
+use Rattle.mixing.proofs.mix.Goals.{After-loop-n, After-mixed-y}
 
 pub loop-n-init : goal.loop-n-init
 unfolding rewritten

@@ -1,7 +1,7 @@
 use mathlib.Core.Bool.{Bool}
 use mathlib.Core.List.{List}
 use mathlib.Core.Path.{◌≡◌}
-use Prim.Native.Nat.{ℕ, ◌+◌, ◌-◌, ◌≤◌}
+use Prim.Native.Nat.{ℕ, ◌+◌, ◌≤◌}
 use lib.IntN.{ℤ, pos}
 use lib.ListN.{get_or}
 use Rattle.sequence.specs.Count.{count}
@@ -16,6 +16,3 @@ test pitch_gain_of code_gain_of innovation predicted n = Fixed.clips (Spec.mixed
 abbrev pub invariant-loop-n : goal.invariant-loop-n
 invariant-loop-n l =
     (l.n ≤ 80) × (l.clipped ≡ count (test l.pitch_gain l.code_gain l.innovation l.predicted) l.n)
-
-abbrev pub decreases-loop-n : goal.decreases-loop-n
-decreases-loop-n l = 80 - l.n

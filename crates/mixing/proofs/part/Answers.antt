@@ -10,4 +10,4 @@ pub returns : goal.returns
 unfolding Spec.part
 returns c =
     let e : c.args.start + 80 - c.args.start ≡ 80 = omega arith in
-    c.copy.ensures ∙ ap (λ (n : ℕ). take n (drop c.args.start c.args.exc.now)) e
+    c.copy_from_slice.ensures.after ∙ ap (λ (n : ℕ). take n (drop c.args.start c.args.exc.now)) e

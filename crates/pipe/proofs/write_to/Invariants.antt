@@ -1,8 +1,5 @@
 use Rattle.std.proofs.Common.{◌≤◌, length}
 use Rattle.pipe.proofs.write_to.Given as goal
 
-abbrev pub invariant-loop-tries : goal.invariant-loop-tries
-invariant-loop-tries g l = l.at ≤ length l.text
-
-abbrev pub decreases-loop-tries : goal.decreases-loop-tries
-decreases-loop-tries g l = l.tries
+abbrev pub invariant-loop : goal.invariant-loop
+invariant-loop g l = l.at ≤ length l.text

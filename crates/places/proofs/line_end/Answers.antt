@@ -1,41 +1,20 @@
--- What is left of the line is counted on.
-use Prim.Native.Nat.{suc}
-use mathlib.Core.Path.{refl, ap, ◌∙◌}
-use native.Mathlib.Numerals.{add-one}
+-- The first newline of what is left ends the line.
+use Rattle.std.proofs.Common.{◌≡◌, ◌≢◌, ◌∙◌, ◌+◌, ℕ, ◌-◌, sym, ap, add-one, List, ◌∷◌, length, take, drop, take_all, length-drop}
+use Rattle.std.proofs.lemmas.Iterator.{YieldsList-from_slice, IsFirst-from_position, index_from_first}
 use native.Mathlib.Omega.{arith}
-use lib.ListN.{drop, drop_of_length-le}
-use lib.Seq.{drop-cons}
+use borrow.Author.Rules.{rules}
+use borrow.Author.Tests.{tests}
 use Rattle.places.specs.Places.{line_end, end_nil, end_newline, end_other}
 use Rattle.places.proofs.line_end.Goals as goal
 
-pub loop-i-init : goal.loop-i-init
-loop-i-init c = (c.requires, refl)
+miss : (b : ℕ) (bs : List ℕ) → b ≢ 10 → line_end (b ∷ bs) ≡ line_end bs + 1
+miss b bs e = end_other b bs e ∙ sym (add-one _)
 
-pub returns-then-recording-i-eq10 : goal.returns-then-recording-i-eq10
-returns-then-recording-i-eq10 c =
+pub returns-clause-end : goal.returns-clause-end
+returns-clause-end c =
     let l = c.args.recording.now in
-    let d = drop-cons l c.loop-i.i 0 c.loop-i-test.true in
-    let z = ap line_end d ∙ end_newline _ (drop (suc c.loop-i.i) l) c.if-recording-i-eq10.true in
-    let e = c.loop-i.invariant.1 in
-    record {
-      end = omega arith;
-      within = c.loop-i.invariant.0;
-    }
-
-pub loop-i-preserved : goal.loop-i-preserved
-loop-i-preserved c =
-    let l = c.args.recording.now in
-    let d = drop-cons l c.loop-i.i 0 c.loop-i-test.true in
-    let z = ap line_end d ∙ end_other _ (drop (suc c.loop-i.i) l) c.if-recording-i-eq10.false in
-    let e = c.loop-i.invariant.1 in
-    rw (add-one c.loop-i.i) (omega arith, omega arith)
-
-pub returns : goal.returns
-returns c =
-    let l = c.args.recording.now in
-    let z = ap line_end (drop_of_length-le l {i = c.loop-i.i} c.loop-i-test.false) ∙ end_nil in
-    let e = c.loop-i.invariant.1 in
-    record {
-      end = omega arith;
-      within = c.loop-i.invariant.0;
-    }
+    let rest = take (length l - c.args.a) (drop c.args.a l) in
+    let all = take_all (length l - c.args.a) (drop c.args.a l) (rw (length-drop c.args.a l) (omega arith)) in
+    let first = IsFirst-from_position _ _ c.position.result (λ b. b ≡ 10) (λ b. b ≢ 10) c.position.ensures.ran (YieldsList-from_slice rest c.iter.ensures.rest) (λ x q k. search (rules, tests)) (λ x q k. search (rules, tests)) in
+    let e = c.unwrap_or.ensures ∙ sym (index_from_first line_end (λ b. b ≡ 10) (λ b. b ≢ 10) end_nil end_newline miss rest c.position.result first) ∙ ap line_end all in
+    omega (arith, e)

@@ -1,5 +1,4 @@
 -- By each byte the line has those before it.
-use borrow.Author.Rules.{rules}
 use mathlib.Core.Path.{refl, sym, ap, ◌∙◌}
 use lib.ListN.{get_or}
 use lib.Seq.{take_all}
@@ -8,13 +7,15 @@ use Rattle.hex_lines.specs.declared.Line.{Line}
 use Rattle.hex_lines.specs.Held.{push}
 use Rattle.playback.proofs.push_all.Goals as goal
 
-pub loop-i-init : goal.loop-i-init
+pub loop-b-init : goal.loop-b-init
 unfolding fed_all
-loop-i-init c = (search rules, refl)
+loop-b-init c = refl
 
-pub loop-i-preserved : goal.loop-i-preserved
-loop-i-preserved c = (search rules, c.push-l.ensures ∙ ap (λ (k : Line). push k (get_or c.args.part.now c.loop-i.i 0)) c.loop-i.invariant.1 ∙ sym (fed_more push c.args.line c.args.part.now c.loop-i.i c.loop-i-test.true))
+pub loop-b-preserved : goal.loop-b-preserved
+loop-b-preserved c =
+    let l = c.loop-b in
+    c.push-l.ensures ∙ ap (λ (k : Line). push k (get_or c.args.part.now l.b-index 0)) l.invariant ∙ sym (fed_more push c.args.line c.args.part.now l.b-index c.loop-b-test.true)
 
 pub returns : goal.returns
 returns c =
-    c.loop-i.invariant.1 ∙ ap (fed_all push c.args.line) (take_all c.loop-i.i c.args.part.now c.loop-i-test.false)
+    c.loop-b.invariant ∙ ap (fed_all push c.args.line) (take_all c.loop-b.b-index c.args.part.now c.loop-b-test.false)

@@ -1,5 +1,5 @@
 use mathlib.Core.Path.{◌≡◌}
-use Prim.Native.Nat.{◌-◌, ◌≤◌}
+use Prim.Native.Nat.{◌≤◌}
 use lib.ListN.{length}
 use Rattle.sequence.specs.Total.{total}
 use Rattle.fixed.specs.Fixed as Fixed
@@ -8,6 +8,3 @@ use Rattle.products.proofs.each.Given as goal
 
 abbrev pub invariant-loop-k : goal.invariant-loop-k
 invariant-loop-k l = (l.k ≤ length l.signal) × (l.value ≡ total Fixed.fold l.initial.value (term l.taps l.signal) l.k)
-
-abbrev pub decreases-loop-k : goal.decreases-loop-k
-decreases-loop-k l = length l.signal - l.k

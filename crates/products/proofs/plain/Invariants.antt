@@ -1,4 +1,4 @@
-use Prim.Native.Nat.{◌-◌, ◌≤◌}
+use Prim.Native.Nat.{◌≤◌}
 use lib.ListN.{length}
 use mir.Syntax.{w32}
 use mir.Val.{of_z}
@@ -7,6 +7,3 @@ use Rattle.products.proofs.plain.Given as goal
 
 abbrev pub invariant-loop-k : goal.invariant-loop-k
 invariant-loop-k l = (l.k ≤ length l.signal) × Summed l.taps l.signal (of_z w32 l.sum) l.k
-
-abbrev pub decreases-loop-k : goal.decreases-loop-k
-decreases-loop-k l = length l.signal - l.k

@@ -2,42 +2,39 @@
 use borrow.Author.Rules.{rules}
 use native.Mathlib.Omega.{arith}
 use mathlib.Core.Path.{◌≡◌, refl, ◌∙◌, ap}
-use lib.IntN.{ℤ, pos, nat_abs}
+use lib.Dec.{leb}
+use lib.IntN.{pos, nat_abs}
 use lib.ListN.{length, get_or}
-use Prim.Native.Nat.{◌≤◌}
 use mir.Syntax.{w16}
 use mir.Val.{SFits}
-use Rattle.std.proofs.lemmas.Int.{ints, to_z-of_z}
-use Rattle.fixed.specs.Machine.{abs_sfits}
-use lib.Signed.{le_z}
+use mir.ValLaws.{to_z-of_z}
 use Rattle.sequence.specs.Total.{total}
 use Rattle.products.specs.Runs.{sizes, sizes_more, small, MOST}
 use Rattle.products.proofs.small.Goals as goal
-use Rattle.products.proofs.small.Goals.{After-size-sum}
+use Rattle.products.proofs.small.Goals.{After-from-sum}
 
-pub loop-k-init : goal.loop-k-init
+pub loop-tap-init : goal.loop-tap-init
 unfolding sizes total
-loop-k-init c = (omega arith, omega arith, refl)
+loop-tap-init c = (omega arith, refl)
 
 -- an element's size
-size_is : (c : goal.After-size-sum) → c.size-sum.result ≡ pos (nat_abs (get_or c.args.taps.now c.loop-k.k (pos 0)))
+size_is : (c : After-from-sum) → c.from-sum.result ≡ nat_abs (get_or c.args.taps.now c.loop-tap.tap-index (pos 0))
 size_is c =
-    let f : SFits w16 (get_or c.args.taps.now c.loop-k.k (pos 0)) = search rules in
-    simp to_z-of_z at c.size-sum.ensures
+    let f : SFits w16 (get_or c.args.taps.now c.loop-tap.tap-index (pos 0)) = search rules in
+    c.from-sum.ensures ∙ simp to_z-of_z at c.unsigned_abs.ensures.value
 
-size_le : (c : goal.After-size-sum) → nat_abs (get_or c.args.taps.now c.loop-k.k (pos 0)) ≤ 32768
-size_le c = abs_sfits w16 (get_or c.args.taps.now c.loop-k.k (pos 0)) (search rules)
+pub overflow_add-sum : goal.overflow_add-sum
+overflow_add-sum c = omega (arith, c.from-sum.ensures, c.unsigned_abs.ensures.bound, c.requires)
 
-pub loop-k-preserved : goal.loop-k-preserved
-loop-k-preserved c =
-    let m = sizes_more c.args.taps.now c.loop-k.k in
+pub loop-tap-preserved : goal.loop-tap-preserved
+loop-tap-preserved c =
+    let m = sizes_more c.args.taps.now c.loop-tap.tap-index in
     let e = size_is c in
-    let b = size_le c in
-    (omega arith, omega arith, omega (arith, ints))
+    (omega (arith, c.from-sum.ensures, c.unsigned_abs.ensures.bound), omega arith)
 
 pub returns : goal.returns
 unfolding small
 returns c =
     let t = c.args.taps.now in
-    let e : c.loop-k.k ≡ length t = omega arith in
-    ap (λ (z : ℤ). le_z z (pos MOST)) (c.loop-k.invariant.2 ∙ ap (λ k. pos (sizes t k)) e)
+    let e : c.loop-tap.tap-index ≡ length t = omega arith in
+    ap (λ z. leb z MOST) (c.loop-tap.invariant.1 ∙ ap (sizes t) e)

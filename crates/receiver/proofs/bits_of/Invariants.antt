@@ -1,11 +1,7 @@
 use mathlib.Core.Path.{◌≡◌}
-use Prim.Native.Nat.{◌-◌}
 use Rattle.receiver.specs.Receiver as Receiver
 use Rattle.receiver.proofs.Walk.{Putting}
 use Rattle.receiver.proofs.bits_of.Given as goal
 
 abbrev pub invariant-loop-j : goal.invariant-loop-j
 invariant-loop-j l = (l.order ≡ Receiver.order) × Putting l.line l.out l.j
-
-abbrev pub decreases-loop-j : goal.decreases-loop-j
-decreases-loop-j l = 162 - l.j

@@ -1,16 +1,18 @@
 -- All that the step makes has 32 bits, by the number's parts; together they are the step.
 use native.Mathlib.Omega.{arith}
-use mathlib.Core.Path.{◌≡◌, ◌∙◌, ap}
+use mathlib.Core.Bool.{Bool, true, false, cond}
+use mathlib.Core.Path.{◌≡◌, refl, ◌∙◌, ap}
 use Prim.Native.Nat.{◌≤◌}
 use lib.IntN.{ℤ, pos, nat_abs, ◌+ℤ◌, ◌-ℤ◌, ◌*ℤ◌}
 use mir.Syntax.{w16, w32}
-use mir.Val.{SFits, to_z, of_z}
+use lib.Signed.{le_z}
+use mir.Val.{SFits, to_z, of_z, bool_byte}
 use mir.ValLaws.{to_z-of_z}
 use Rattle.fixed.specs.Abs.{abs_mul_le}
 use Rattle.fixed.specs.Machine.{abs_sfits, sfits_abs, widens_to, widened_to}
 use Rattle.reciprocal.specs.Narrow.{Parts, parts, kept, bit, step_by}
 use Rattle.reciprocal.proofs.narrow_step.Goals as goal
-use Rattle.reciprocal.proofs.narrow_step.Goals.{After-bit, After-kept, Start}
+use Rattle.reciprocal.proofs.narrow_step.Goals.{After-from, After-kept, Start}
 
 module _ (c : goal.Start) where
   abbrev num : ℤ
@@ -64,16 +66,21 @@ overflow_mul-left c = simp (den_back c) (d_fits c)
 pub overflow_sub-left : goal.overflow_sub-left
 overflow_sub-left c = simp (den_back c, num_back c, d_back c) (left_fits c)
 
+-- the bit of a test
+chosen : (t : Bool) → pos (bool_byte t) ≡ cond t (pos 1) (pos 0)
+chosen true = refl
+chosen false = refl
+
 -- what the two calls gave
 kept_gave : (c : goal.After-kept) → to_z w32 (of_z w32 c.kept.result) ≡ kept (num c.before) (left c.before)
 kept_gave c =
     let b = c.before in
     to_z-of_z w32 _ (record { sfits = c.kept.type_inv }) ∙ simp (den_back b, num_back b, d_back b, left_back b) at c.kept.ensures
 
-bit_gave : (c : goal.After-bit) → to_z w32 (of_z w32 c.bit.result) ≡ bit (left c.before.before)
+bit_gave : (c : goal.After-from) → to_z w32 (of_z w32 c.from.result) ≡ bit (left c.before.before)
 bit_gave c =
     let b = c.before.before in
-    to_z-of_z w32 _ (record { sfits = c.bit.type_inv }) ∙ simp (den_back b, num_back b, d_back b, left_back b) at c.bit.ensures
+    to_z-of_z w32 _ (record { sfits = c.from.type_inv }) ∙ simp (den_back b, num_back b, d_back b, left_back b) at c.from.ensures ∙ chosen (le_z (pos 0) (left b))
 
 pub overflow_mul-kept : goal.overflow_mul-kept
 overflow_mul-kept c = simp (kept_gave c) (twice_fits c.before)

@@ -11,27 +11,27 @@ use Rattle.fixed.specs.Fixed as Fixed
 use Rattle.fixed.specs.Machine.{back}
 use Rattle.fixed.specs.Bounds.{abs_restoring_divide}
 use Rattle.reciprocal.proofs.restoring_divide.Goals as goal
-use Rattle.reciprocal.proofs.restoring_divide.Goals.{At-loop-k}
+use Rattle.reciprocal.proofs.restoring_divide.Goals.{At-loop}
 
 -- the loop's number, after k steps
-n_back : (c : goal.At-loop-k) → to_z w64 c.loop-k.n-bits ≡ Fixed.restoring_divide c.args.num c.args.den c.loop-k.k
-n_back c = simp (to_z-of_z w64 c.args.num c.ranges.num, to_z-of_z w16 c.args.den c.ranges.den) at c.loop-k.invariant.1
+n_back : (c : goal.At-loop) → to_z w64 c.loop.n-bits ≡ Fixed.restoring_divide c.args.num c.args.den c.loop.counter
+n_back c = simp (to_z-of_z w64 c.args.num c.ranges.num, to_z-of_z w16 c.args.den c.ranges.den) at c.loop.invariant.1
 
-pub loop-k-init : goal.loop-k-init
+pub loop-init : goal.loop-init
 unfolding Fixed.restoring_divide repeated
-loop-k-init c = (omega arith, search rules)
+loop-init c = (omega arith, search rules)
 
 pub restoring_step-n-requires : goal.restoring_step-n-requires
-restoring_step-n-requires c = rw (n_back c.before) (abs_restoring_divide c.args.num c.args.den c.loop-k.k c.requires)
+restoring_step-n-requires c = rw (n_back c.before) (abs_restoring_divide c.args.num c.args.den c.loop.counter c.requires)
 
-pub loop-k-preserved : goal.loop-k-preserved
+pub loop-preserved : goal.loop-preserved
 unfolding Fixed.restoring_divide repeated
-loop-k-preserved c =
+loop-preserved c =
     let a = to_z-of_z w64 c.args.num c.ranges.num in
     let b = to_z-of_z w16 c.args.den c.ranges.den in
-    (omega arith, simp (a, b, add-one c.loop-k.k) (back w64 c.restoring_step-n.result c.restoring_step-n.type_inv ∙ simp (n_back c.before.before, b) at c.restoring_step-n.ensures))
+    (omega arith, simp (a, b, add-one c.loop.counter) (back w64 c.restoring_step-n.result c.restoring_step-n.type_inv ∙ simp (n_back c.before.before, b) at c.restoring_step-n.ensures))
 
 pub returns : goal.returns
 returns c =
-    let e : c.loop-k.k ≡ c.args.steps = omega arith in
+    let e : c.loop.counter ≡ c.args.steps = omega arith in
     rw (← e) (n_back c.before)

@@ -8,15 +8,15 @@ use mir.Syntax.{w16, w64}
 use mir.Val.{SFits, to_z, of_z}
 use mir.ValLaws.{to_z-of_z}
 use Rattle.fixed.specs.Fixed as Fixed
-use Rattle.fixed.specs.Abs.{abs_mul_le, mag_shr_is}
+use Rattle.fixed.specs.Abs.{abs_neg, abs_mul_le, mag_shr_is}
 use Rattle.fixed.specs.Wrap.{residue_lt}
 use Rattle.fixed.specs.Machine.{sfits_abs, back, shr_sfits}
 use Rattle.fixed.specs.Bounds.{mag_sat}
 use Rattle.reciprocal.proofs.size_reciprocal.Goals as goal
 use Rattle.reciprocal.proofs.size_reciprocal.Goals.{After-reciprocal_bits, After-sat, Start}
 
-pub absolute-requires : goal.absolute-requires
-absolute-requires c = rw (to_z-of_z w64 _ c.ranges.n) c.requires
+pub abs-requires : goal.abs-requires
+abs-requires c = rw (to_z-of_z w64 _ c.ranges.n) (sfits_abs w64 _ (omega (arith, abs_neg c.args.n, c.requires)))
 
 module _ (c : goal.After-sat) where
   abbrev S : ℤ
@@ -27,8 +27,8 @@ module _ (c : goal.After-sat) where
 
   S_is : S ≡ Fixed.sat (pos (nat_abs start.args.n))
   S_is =
-      simp (back w64 c.before.absolute.result c.before.absolute.type_inv) at c.sat.ensures
-      ∙ ap (λ (z : ℤ). Fixed.sat z) (simp (to_z-of_z w64 _ start.ranges.n) at c.before.absolute.ensures)
+      simp (back w64 c.before.abs.result c.before.abs.type_inv) at c.sat.ensures
+      ∙ ap (λ (z : ℤ). Fixed.sat z) (simp (to_z-of_z w64 _ start.ranges.n) at c.before.abs.ensures.value)
 
   S_mag : mag S < 2147483648
   S_mag = rw S_is (mag_sat _)

@@ -1,6 +1,15 @@
 -- The records after it, and its line.
+use borrow.Author.Rules.{rules}
+use Rattle.std.proofs.Common.{◌≡◌, sym, ap, ◌∙◌, ℕ}
+use Rattle.stream.specs.Decimal.{figure}
+use Rattle.replies.specs.Replies.{held_word, answered, answer_line, valued, answered_told}
+use Rattle.replies.specs.Promised.{put_as}
 use Rattle.replies.proofs.hold.Goals as goal
 
 pub returns : goal.returns
 returns c =
-    record { slots = c.hold_by_value-a.ensures.slots; silent = c.silence.ensures; put = rw (← c.hold_by_value-a.ensures.answer) c.put_answer.ensures }
+    let k = c.args.k in
+    let d = c.hold-answer.ensures in
+    let e : c.map.result ≡ valued k c.hold-answer.result = search rules in
+    let t = ap (λ (n : ℕ). answered n (figure held_word k)) (sym d.answer) ∙ answered_told held_word k c.hold-answer.result ∙ ap (answer_line held_word) (sym e) in
+    record { slots = d.slots; silent = c.silence.ensures; put = put_as t c.put_result.ensures }

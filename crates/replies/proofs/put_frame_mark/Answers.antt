@@ -6,9 +6,11 @@ use Rattle.replies.proofs.put_frame_mark.Goals as goal
 
 pub put_figure-requires : goal.put_figure-requires
 put_figure-requires c =
-    let l = decimal_long c.args.k in
+    let l = decimal_long c.from.result in
     omega arith
 
 pub returns : goal.returns
 returns c =
-    put_mark c.args.k c.args.mark c.args.room.now _ _ _ _ _ c.requires c.put_at-a.ensures.next c.put_at-a.ensures.text c.put_decimal-b.ensures.next c.put_decimal-b.ensures.text c.put_figure.ensures.next c.put_figure.ensures.text
+    let e = c.from.ensures in
+    let f = c.from-2.ensures in
+    put_mark c.args.k c.args.mark c.args.room.now _ _ _ _ _ c.requires c.put_at-a.ensures.next c.put_at-a.ensures.text (rw e at c.put_decimal-b.ensures.next) (rw e at c.put_decimal-b.ensures.text) (rw f at c.put_figure.ensures.next) (rw f at c.put_figure.ensures.text)

@@ -1,12 +1,12 @@
--- What was not found is told, and what was found by its mark.
+-- What was found is told by its mark, and what was not by its refusal.
+use Rattle.std.proofs.Common.{refl}
+use Rattle.refusal.specs.Numbers.{number_not_0}
 use Rattle.replies.specs.Replies.{answered_yes, answered_no}
 use Rattle.replies.specs.Promised.{put_as}
-use mathlib.Core.Path.{refl, sym, ◌∙◌}
 use Rattle.replies.proofs.tell.Goals as goal
 
-pub returns-then-number-ne0 : goal.returns-then-number-ne0
-returns-then-number-ne0 c = record { slots = refl; silent = c.silence.ensures; put = put_as (answered_no _ _ c.if-number-ne0.true ∙ sym (answered_no _ _ c.if-number-ne0.true)) c.put_answer.ensures }
+pub returns-in-Ok : goal.returns-in-Ok
+returns-in-Ok c = rw c.in-Ok.is (record { slots = refl; silent = c.silence.ensures; put = put_as (answered_yes _ _ refl) c.put_frame_mark.ensures })
 
-pub returns : goal.returns
-returns c =
-    record { slots = refl; silent = c.silence-2.ensures; put = put_as (answered_yes _ _ c.if-number-ne0.false) c.put_frame_mark.ensures }
+pub returns-in-Err : goal.returns-in-Err
+returns-in-Err c = rw c.in-Err.is (record { slots = refl; silent = c.silence.ensures; put = put_as (answered_no _ _ (number_not_0 c.in-Err.why)) c.put_refused.ensures })

@@ -1,16 +1,17 @@
 -- The tests of k are those of the definition.
-use borrow.Author.Tests.{eq-eqb, ne_eqb}
+use borrow.Author.Tests.{ne_eqb}
+use native.Mathlib.Omega.{arith}
 use Rattle.tables.specs.Tables as Tables
 use Rattle.rule_places.proofs.limit_bad.Goals as goal
 
-pub returns-then-k-eq0 : goal.returns-then-k-eq0
+pub returns-in-0 : goal.returns-in-0
 unfolding Tables.limit_bad
-returns-then-k-eq0 c = rw (c.before.unsigned_word-x.ensures, eq-eqb _ _ c.if-k-eq0.true)
+returns-in-0 c = rw (c.unsigned_word-x.ensures, c.in-0.is)
 
-pub returns-then-k-eq1 : goal.returns-then-k-eq1
+pub returns-in-1 : goal.returns-in-1
 unfolding Tables.limit_bad
-returns-then-k-eq1 c = rw (c.before.before.unsigned_word-x.ensures, ne_eqb _ _ c.before.if-k-eq0.false, eq-eqb _ _ c.if-k-eq1.true)
+returns-in-1 c = rw (c.unsigned_word-x.ensures, c.in-1.is)
 
-pub returns : goal.returns
+pub returns-in_default : goal.returns-in_default
 unfolding Tables.limit_bad
-returns c = rw (c.before.before.before.unsigned_word-x.ensures, c.unsigned_word.ensures, ne_eqb _ _ c.before.before.if-k-eq0.false, ne_eqb _ _ c.before.if-k-eq1.false)
+returns-in_default c = rw (c.unsigned_word-x.ensures, c.unsigned_word.ensures, ne_eqb c.args.k 0 (λ e. omega (arith, c.in_default)), ne_eqb c.args.k 1 (λ e. omega (arith, c.in_default)))

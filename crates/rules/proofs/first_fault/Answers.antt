@@ -1,26 +1,32 @@
 -- The loop looks through the rules from 1 on: rule 0 has no place, and is not broken.
-use mathlib.Core.Path.{◌∙◌}
+use Rattle.std.proofs.Common.{◌+◌, sym, ◌∙◌, arith}
 use Rattle.sequence.specs.First.{first_more, first_found, first_none}
-use Rattle.rules.proofs.Rules.{from_one, broken_no, broken_yes, told, nothing_told}
-use borrow.Author.Rules.{rules}
+use Rattle.rules.specs.declared.Rule.TheVariants.{Limit}
+use Rattle.rules.proofs.Rules.{from_one, broken_no, broken_yes, told, nothing_told, numbered}
 use Rattle.rules.proofs.first_fault.Goals as goal
 
 pub loop-rule-init : goal.loop-rule-init
-loop-rule-init c = (search rules, search rules, from_one _ _)
+loop-rule-init c = (omega arith, from_one _ _)
 
 pub returns-then-k-count : goal.returns-then-k-count
 returns-then-k-count c =
-    let d = c.before.before.before in
-    let at = d.before.before.loop-rule in
-    told _ _ at.rule _ _ d.before.loop-rule-test.true d.first_bad-k.ensures c.place.ensures
-    (at.invariant.2 ∙ first_found _ at.rule 7 d.before.loop-rule-test.true (broken_yes _ _ at.rule _ _ d.first_bad-k.ensures c.before.before.count.ensures c.before.if-k-count.true))
+    let at = c.loop-rule in
+    let i = at.rule-index in
+    let t = c.loop-rule-test.true in
+    let e = numbered Limit i t in
+    let yes = rw e at (broken_yes c.args.words.now c.args.bytes.now _ _ _ c.first_bad-k.ensures c.count.ensures c.if-k-count.true) in
+    rw c.number.ensures (told c.args.words.now c.args.bytes.now _ _ _ (rw e (omega arith)) c.first_bad-k.ensures c.place.ensures (at.invariant.1 ∙ first_found _ (i + 1) 7 (omega arith) yes ∙ sym e))
 
 pub loop-rule-preserved : goal.loop-rule-preserved
 loop-rule-preserved c =
-    let at = c.before.before.before.before.loop-rule in
-    (search rules, search rules, at.invariant.2 ∙ first_more _ at.rule 7 c.before.before.before.loop-rule-test.true (broken_no _ _ at.rule _ _ c.before.before.first_bad-k.ensures c.before.count.ensures c.if-k-count.false))
+    let at = c.loop-rule in
+    let i = at.rule-index in
+    let t = c.loop-rule-test.true in
+    let no = rw (numbered Limit i t) at (broken_no c.args.words.now c.args.bytes.now _ _ _ c.first_bad-k.ensures c.count.ensures c.if-k-count.false) in
+    (omega arith, at.invariant.1 ∙ first_more _ (i + 1) 7 (omega arith) no)
 
 pub returns : goal.returns
 returns c =
-    let at = c.before.loop-rule in
-    nothing_told _ _ at.rule c.loop-rule-test.false (at.invariant.2 ∙ first_none _ at.rule 7 c.loop-rule-test.false)
+    let at = c.loop-rule in
+    let t = c.loop-rule-test.false in
+    nothing_told _ _ (at.rule-index + 1) (omega arith) (at.invariant.1 ∙ first_none _ (at.rule-index + 1) 7 (omega arith))

@@ -1,5 +1,5 @@
 -- Each arm, by the test that led there.
-use mathlib.Core.Path.{◌≡◌, sym, ap}
+use mathlib.Core.Path.{◌≡◌, sym, ◌∙◌, ap}
 use mathlib.Core.Bool.{Bool, true, false, ◌||◌}
 use lib.IntN.{pos, negsuc}
 use lib.Signed.{lt_z}
@@ -12,7 +12,7 @@ unfolding beyond
 returns-then-v-ltminus32768 c =
     let f = c.before.ranges.v in
     let t : lt_z c.before.args.v (negsuc 32767) ≡ true = simp to_z-of_z at c.if-v-ltminus32768.true in
-    sym (ap (λ (b : Bool). b || lt_z (pos 32767) c.before.args.v) t)
+    c.if-v-ltminus32768.true ∙ sym (ap (λ (b : Bool). b || lt_z (pos 32767) c.before.args.v) t)
 
 pub returns-else-v-ltminus32768 : goal.returns-else-v-ltminus32768
 unfolding beyond

@@ -9,23 +9,18 @@ use Rattle.output_filter.specs.Sections.{beyond, fifths, short}
 use Rattle.scaling.proofs.clips_at.Goals as goal
 use Rattle.scaling.proofs.clips_at.Goals.{After-beyond}
 
-first_is : (c : goal.After-beyond) → c.beyond.result ≡ beyond c.before.args.first
-first_is c = simp (to_z-of_z w32 _ c.before.ranges.first) at c.beyond.ensures
+first_is : (c : goal.After-beyond) → c.beyond.result ≡ beyond c.args.first
+first_is c = simp (to_z-of_z w32 _ c.ranges.first) at c.beyond.ensures
 
 pub returns-then-beyond : goal.returns-then-beyond
 unfolding Sections.clips_at
 returns-then-beyond c =
-    let b = c.before in
-    sym (ap (λ (t : Bool). t || beyond (fifths (short b.before.args.second))) (sym (first_is b) ∙ c.if-beyond.true))
+    c.if-beyond.true ∙ sym (ap (λ (t : Bool). t || beyond (fifths (short c.args.second))) (sym (first_is c.before) ∙ c.if-beyond.true))
 
-pub returns : goal.returns
+pub returns-else-beyond : goal.returns-else-beyond
 unfolding Sections.clips_at
-returns c =
-    let f = c.before.scaled_by in
-    let k = c.before.before.short in
-    let b = c.before.before.before.before in
-    let s = b.before in
-    simp (back w32 f.result f.type_inv) at c.beyond-2.ensures
-    ∙ ap beyond (simp (back w16 k.result k.type_inv) at f.ensures)
-    ∙ ap (λ z. beyond (fifths z)) (simp (to_z-of_z w32 _ s.ranges.second) at k.ensures)
-    ∙ sym (ap (λ (t : Bool). t || beyond (fifths (short s.args.second))) (sym (first_is b) ∙ c.before.before.before.if-beyond.false))
+returns-else-beyond c =
+    simp (back w32 c.scaled_by.result c.scaled_by.type_inv) at c.beyond-else-beyond.ensures
+    ∙ ap beyond (simp (back w16 c.short.result c.short.type_inv) at c.scaled_by.ensures)
+    ∙ ap (λ z. beyond (fifths z)) (simp (to_z-of_z w32 _ c.ranges.second) at c.short.ensures)
+    ∙ sym (ap (λ (t : Bool). t || beyond (fifths (short c.args.second))) (sym (simp (to_z-of_z w32 _ c.ranges.first) at c.beyond.ensures) ∙ c.if-beyond.false))

@@ -9,13 +9,13 @@ use lib.IntN.{ℤ, pos}
 use lib.ListN.{length, get_or, length-map}
 use mir.Syntax.{w32}
 use Rattle.sequence.specs.Count.{one, count, count_none, count_again, count_end, count_le}
-use Rattle.fixed.specs.Clips.{at_end, ends}
+use Rattle.fixed.specs.Clips.{at_end, ends, one_of}
 use Rattle.fixed.specs.Machine.{back}
 use Rattle.output_filter.specs.Postfilter.{scaled}
 use Rattle.output_filter.specs.Sections.{short, clipped_by, none_clipped}
 use Rattle.sections.proofs.clipped.Invariants.{test}
 use Rattle.sections.proofs.clipped.Goals as goal
-use Rattle.sections.proofs.clipped.Goals.{After-one-clipped, At-loop-n, Start}
+use Rattle.sections.proofs.clipped.Goals.{After-from-clipped, At-loop-n, Start}
 
 -- both lists are as long as the first
 module _ (s : goal.Start) where
@@ -57,7 +57,7 @@ pub bounds-second-n : goal.bounds-second-n
 bounds-second-n c = let l = c.before.before in omega (arith, l.before.before.before.before.requires.first_len_bound.1)
 
 -- a turn
-module _ (c : goal.After-one-clipped) where
+module _ (c : goal.After-from-clipped) where
   abbrev l : goal.At-loop-n
   l = c.before.before.before.before.before
 
@@ -67,12 +67,12 @@ module _ (c : goal.After-one-clipped) where
   abbrev counts : ℕ → Bool
   counts = test s.args.first.now s.args.second.now
 
-  counted : l.loop-n.clipped + c.one-clipped.result ≡ count counts (l.loop-n.n + 1)
+  counted : l.loop-n.clipped + c.from-clipped.result ≡ count counts (l.loop-n.n + 1)
   counted =
       let k = c.before in
       let x = get_or s.args.first.now l.loop-n.n (pos 0) in
       let y = get_or s.args.second.now l.loop-n.n (pos 0) in
-      let e : c.one-clipped.result ≡ one (counts l.loop-n.n) = c.one-clipped.ensures ∙ ap one (simp (back w32 x (search rules), back w32 y (search rules)) at k.clips_at.ensures) in
+      let e : c.from-clipped.result ≡ one (counts l.loop-n.n) = c.from-clipped.ensures ∙ one_of k.clips_at.result ∙ ap one (simp (back w32 x (search rules), back w32 y (search rules)) at k.clips_at.ensures) in
       count_again counts l.loop-n.n l.loop-n.invariant.1 e
 
 pub overflow_add-clipped : goal.overflow_add-clipped

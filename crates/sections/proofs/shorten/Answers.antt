@@ -24,8 +24,8 @@ loop-n-preserved c =
     let l = c.before.before.before in
     let xs = l.before.args.input.now in
     let n = l.loop-n.n in
-    let e : to_z w16 (of_z w16 c.short-y.result) ≡ short (get_or xs n (pos 0)) =
-    back w16 c.short-y.result c.short-y.type_inv ∙ simp (back w32 (get_or xs n (pos 0)) (search rules)) at c.short-y.ensures in
+    let e : to_z w16 (of_z w16 c.short.result) ≡ short (get_or xs n (pos 0)) =
+    back w16 c.short.result c.short.type_inv ∙ simp (back w32 (get_or xs n (pos 0)) (search rules)) at c.short.ensures in
     written_more (value xs) (length xs) l.loop-n.output n _ l.loop-n.invariant (omega arith) e
 
 pub returns : goal.returns

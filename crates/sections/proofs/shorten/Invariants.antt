@@ -1,5 +1,5 @@
 use mathlib.Core.List.{List}
-use Prim.Native.Nat.{ℕ, ◌-◌}
+use Prim.Native.Nat.{ℕ}
 use lib.IntN.{ℤ, pos}
 use lib.ListN.{length, get_or}
 use Rattle.sequence.specs.Table.{Written}
@@ -11,6 +11,3 @@ value input k = short (get_or input k (pos 0))
 
 abbrev pub invariant-loop-n : goal.invariant-loop-n
 invariant-loop-n l = Written (value l.input) (length l.input) l.output l.n
-
-abbrev pub decreases-loop-n : goal.decreases-loop-n
-decreases-loop-n l = length l.input - l.n

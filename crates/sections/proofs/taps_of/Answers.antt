@@ -1,24 +1,17 @@
-use mir.Syntax.{w16}
-use Rattle.fixed.specs.Machine.{back}
+-- Each array that the library makes is the table of its items.
+use borrow.Author.Rules.{rules}
+use Prim.Native.Nat.{◌+◌}
+use mathlib.Core.Path.{◌≡◌}
+use Rattle.sequence.specs.Table.{table}
+use Rattle.sequence.specs.Made.{table_from_fn}
+use Rattle.tables.specs.Places.{OUT_FIR, OUT_IIR}
+use Rattle.tables.specs.Tables.{word}
 use Rattle.output_filter.specs.Postfilter as Postfilter
 use Rattle.sections.proofs.taps_of.Goals as goal
 
 pub returns : goal.returns
-unfolding Postfilter.taps_of
+unfolding Postfilter.taps_of table
 returns c =
-    let c6 = c.before in
-    let c5 = c6.before in
-    let c4 = c5.before in
-    let c3 = c4.before in
-    let c2 = c3.before in
-    let c1 = c2.before in
-    simp (
-      back w16 c1.word.result c1.word.type_inv,
-      back w16 c2.word-2.result c2.word-2.type_inv,
-      back w16 c3.word-3.result c3.word-3.type_inv,
-      back w16 c4.word-4.result c4.word-4.type_inv,
-      back w16 c5.word-5.result c5.word-5.type_inv,
-      back w16 c6.word-6.result c6.word-6.type_inv,
-      back w16 c.word-7.result c.word-7.type_inv,
-    )
-    (cc)
+    let ff : c.from_fn.result ≡ table (λ k. word c.args.words.now (OUT_FIR + k)) 4 = table_from_fn (λ k. word c.args.words.now (OUT_FIR + k)) c.from_fn.ensures.items (λ k y q h e. search rules) in
+    let fb : c.from_fn-2.result ≡ table (λ k. word c.args.words.now (OUT_IIR + k)) 3 = table_from_fn (λ k. word c.args.words.now (OUT_IIR + k)) c.from_fn-2.ensures.items (λ k y q h e. search rules) in
+    λ i. record { ff = ff i; fb = fb i }

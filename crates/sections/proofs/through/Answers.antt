@@ -37,8 +37,8 @@ loop-n-preserved c =
     let st = left a.taps a.lines (take n xs) in
     let sum : to_z w64 (of_z w64 m.section_sum-sum.result) ≡ line_sum a.taps st x =
     back w64 m.section_sum-sum.result m.section_sum-sum.type_inv ∙ simp (back w16 x (search rules)) at m.section_sum-sum.ensures ∙ ap (λ (s : Lines). line_sum a.taps s x) i.1 in
-    let y : to_z w32 (of_z w32 w.wide-y.result) ≡ value a.taps a.lines xs n =
-    back w32 w.wide-y.result w.wide-y.type_inv ∙ simp sum at w.wide-y.ensures in
+    let y : to_z w32 (of_z w32 w.wide.result) ≡ value a.taps a.lines xs n =
+    back w32 w.wide.result w.wide.type_inv ∙ simp sum at w.wide.ensures in
     let r : c.moved-state.result ≡ moved st x (line_sum a.taps st x) =
     simp (back w16 x (search rules), sum) at c.moved-state.ensures ∙ ap (λ (s : Lines). moved s x (line_sum a.taps st x)) i.1 in (
       written_more (value a.taps a.lines xs) (length xs) l.loop-n.output n _ i.0 (omega arith) y,

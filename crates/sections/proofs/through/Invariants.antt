@@ -1,6 +1,6 @@
 use mathlib.Core.List.{List}
 use mathlib.Core.Path.{◌≡◌}
-use Prim.Native.Nat.{ℕ, ◌-◌}
+use Prim.Native.Nat.{ℕ}
 use lib.IntN.{ℤ, pos}
 use lib.ListN.{length, get_or, take}
 use Rattle.sequence.specs.Table.{Written}
@@ -14,6 +14,3 @@ value taps lines xs k = wide (line_sum taps (left taps lines (take k xs)) (get_o
 
 abbrev pub invariant-loop-n : goal.invariant-loop-n
 invariant-loop-n l = Written (value l.taps l.initial.state l.input) (length l.input) l.output l.n × (l.state ≡ left l.taps l.initial.state (take l.n l.input))
-
-abbrev pub decreases-loop-n : goal.decreases-loop-n
-decreases-loop-n l = length l.input - l.n

@@ -1,25 +1,28 @@
 -- By the match's keys.
 use borrow.Author.Rules.{rules}
-use native.Mathlib.Omega.{arith}
-use mathlib.Core.Path.{◌∙◌}
-use Rattle.std.specs.Prelude.{◌≢◌}
 use borrow.Author.Tests.{ne_eqb}
+use native.Mathlib.Omega.{arith}
+use mathlib.Core.Path.{◌≡◌, refl, sym, ◌∙◌}
+use Prim.Native.Nat.{ℕ, zero, suc, ◌<◌}
+use Rattle.std.specs.Prelude.{◌≢◌}
 use mir.Syntax.{w16}
 use mir.ValLaws.{to_z-of_z}
+use Rattle.excitation.specs.declared.InterpolationGains.{InterpolationGains}
 use Rattle.half.specs.Core.{sharpen_gain}
 use Rattle.shaping.proofs.sharpen_gain.Goals as goal
 
+voiced : (k : ℕ) (g : InterpolationGains) → k < 6 → k ≢ 0 → k ≢ 3 → k ≢ 4 → sharpen_gain k g ≡ g.voiced
+unfolding sharpen_gain
+voiced zero g h a b c = absurd (a refl)
+voiced (suc zero) g h a b c = refl
+voiced (suc (suc zero)) g h a b c = refl
+voiced (suc (suc (suc zero))) g h a b c = absurd (b refl)
+voiced (suc (suc (suc (suc zero)))) g h a b c = absurd (c refl)
+voiced (suc (suc (suc (suc (suc zero))))) g h a b c = refl
+voiced (suc (suc (suc (suc (suc (suc k)))))) g h a b c = absurd (omega arith)
+
 pub returns-in-1 : goal.returns-in-1
-unfolding sharpen_gain
-returns-in-1 c = rw c.in-1.is (search rules)
-
-pub returns-in-2 : goal.returns-in-2
-unfolding sharpen_gain
-returns-in-2 c = rw c.in-2.is (search rules)
-
-pub returns-in-5 : goal.returns-in-5
-unfolding sharpen_gain
-returns-in-5 c = rw c.in-5.is (search rules)
+returns-in-1 c = to_z-of_z w16 c.args.g.voiced (search rules) ∙ sym (voiced c.args.class c.args.g (grind arith) (grind arith) (grind arith) (grind arith))
 
 pub returns-in_default : goal.returns-in_default
 unfolding sharpen_gain

@@ -1,25 +1,16 @@
-use Rattle.std.proofs.Common.{arith, length}
-use Rattle.slots.proofs.Reading.{turns_le, turns_16, read_none, read_more, read_end}
+-- Each is read as it stands.
+use borrow.Author.Rules.{rules}
+use Rattle.std.proofs.Common.{◌≡◌, get_or, length, eq-eqb, ne_eqb, refl}
+use Rattle.sequence.specs.Made.{table_from_fn}
+use Rattle.sequence.specs.Table.{table_of}
+use Rattle.slots.specs.Slots.{no_slot}
 use Rattle.slots.proofs.shown.Goals as goal
 
-pub loop-i-init : goal.loop-i-init
-loop-i-init c = (omega arith, read_none _ _ c.begun-r.ensures)
-
-pub offset_bounds-slots-i : goal.offset_bounds-slots-i
-offset_bounds-slots-i c = let t = turns_16 (length c.args.slots.now) in let e = c.turns-n.ensures in omega arith
-
-pub bounds-slots-i : goal.bounds-slots-i
-bounds-slots-i c = let t = turns_le (length c.args.slots.now) in let e = c.turns-n.ensures in omega arith
-
-pub noted-r-requires : goal.noted-r-requires
-noted-r-requires c = let t = turns_16 (length c.args.slots.now) in let e = c.turns-n.ensures in omega arith
-
-pub loop-i-preserved : goal.loop-i-preserved
-loop-i-preserved c =
-    let t = turns_16 (length c.args.slots.now) in
-    let u = turns_le (length c.args.slots.now) in
-    let e = c.turns-n.ensures in
-    (omega arith, read_more _ _ _ _ c.loop-i.invariant.1 (omega arith) (omega arith) (omega arith) c.noted-r.ensures)
+pub returns-then-slots-ne16 : goal.returns-then-slots-ne16
+returns-then-slots-ne16 c = rw (ne_eqb _ _ c.if-slots-ne16.true)
 
 pub returns : goal.returns
-returns c = let e = c.turns-n.ensures in read_end _ _ _ (omega arith) (omega arith) c.loop-i.invariant.1
+returns c =
+    let l = c.args.slots.now in
+    let n : length l ≡ 16 = search rules in
+    rw (eq-eqb _ _ n, table_from_fn (λ k. get_or l k no_slot) c.from_fn.ensures.items (λ k y q h e. search rules), table_of (λ k. get_or l k no_slot) no_slot l 16 n (λ k h. refl))

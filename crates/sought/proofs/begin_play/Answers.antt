@@ -1,15 +1,16 @@
--- What was not found is told, and what was found is left to play.
-use Rattle.sought.proofs.Steps.{cues_none, cues_some}
+-- What was found is left to play, and what was not is told.
+use Rattle.std.proofs.Common.{refl, arith}
+use Rattle.refusal.specs.Numbers.{number_not_0}
+use Rattle.stream.specs.Room.{over_none}
 use Rattle.replies.specs.Replies.{answered_yes, answered_no}
 use Rattle.replies.specs.Promised.{put_as}
-use mathlib.Core.Path.{refl, sym, ◌∙◌}
-use native.Mathlib.Omega.{arith}
-use Rattle.stream.specs.Room.{over_none}
+use Rattle.sought.proofs.Steps.{cues_none, cues_some}
 use Rattle.sought.proofs.begin_play.Goals as goal
 
-pub returns-then-number-ne0 : goal.returns-then-number-ne0
-returns-then-number-ne0 c = record { slots = refl; cue = cues_none _ _ _ _ _ c.if-number-ne0.true c.silence.ensures; put = put_as (answered_no _ _ c.if-number-ne0.true ∙ sym (answered_no _ _ c.if-number-ne0.true)) c.put_answer.ensures }
+pub returns-in-Ok : goal.returns-in-Ok
+returns-in-Ok c =
+    rw c.in-Ok.is (record { slots = refl; cue = cues_some _ _ _ _ _ c.place_of.ensures; put = put_as (answered_yes _ _ refl) (record { long = refl; fits = omega arith; put = over_none _ }) })
 
-pub returns : goal.returns
-returns c =
-    record { slots = refl; cue = cues_some _ _ _ _ _ c.if-number-ne0.false c.place_of.ensures; put = put_as (answered_yes _ _ c.if-number-ne0.false) (record { long = refl; fits = omega arith; put = over_none _ }) }
+pub returns-in-Err : goal.returns-in-Err
+returns-in-Err c =
+    rw c.in-Err.is (record { slots = refl; cue = cues_none _ c.in-Err.why _ _ _ c.silence.ensures; put = put_as (answered_no _ _ (number_not_0 c.in-Err.why)) c.put_refused.ensures })

@@ -1,17 +1,8 @@
--- The loop writes the table of `initial_at`.
-use mathlib.Core.Path.{refl}
-use lib.ListN.{replicate}
-use lib.Ieee.{binary32, of_bits}
-use Rattle.sequence.specs.Table.{written_none, written_more, written_end}
-use Rattle.spectral.specs.Spectral.{initial}
+use borrow.Author.Rules.{rules}
+use Rattle.sequence.specs.Made.{table_from_fn}
+use Rattle.spectral.specs.Spectral.{initial, initial_at}
 use Rattle.spectral.proofs.initial.Goals as goal
-
-pub loop-k-init : goal.loop-k-init
-loop-k-init c = written_none _ 30 (replicate 30 (of_bits binary32 0)) refl
-
-pub loop-k-preserved : goal.loop-k-preserved
-loop-k-preserved c = let at = c.before.before.loop-k in written_more _ 30 at.out at.k c.initial_at.result at.invariant c.before.loop-k-test.true c.initial_at.ensures
 
 pub returns : goal.returns
 unfolding initial
-returns c = let at = c.before.loop-k in written_end _ 30 at.out at.k at.invariant c.loop-k-test.false
+returns c = table_from_fn (initial_at c.args.words.now) c.from_fn.ensures.items (λ k y q h e. search rules)

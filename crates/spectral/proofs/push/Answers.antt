@@ -1,19 +1,13 @@
--- The loop writes the table of `pushed_at`, and that table is the residual before the history.
-use mathlib.Core.Path.{refl, ◌∙◌}
-use lib.ListN.{replicate}
-use lib.Ieee.{binary32, of_bits}
-use Rattle.sequence.specs.Table.{written_none, written_more, written_end}
-use Rattle.spectral.specs.Pushed.{push_table}
-use borrow.Author.Rules.{rules}
+-- The residual stands before what is copied behind it.
+use Rattle.std.specs.Prelude.{ℕ, ◌≡◌, List, ◌++◌, length, Float}
+use Rattle.std.proofs.Common.{refl, ◌∙◌, rules, arith, append-nil, take_at, drop_at, drop_of_length-le}
+use borrow.Rule.Slice.PartMut.{put_mid}
+use Rattle.spectral.specs.Spectral.{push}
 use Rattle.spectral.proofs.push.Goals as goal
 
-pub loop-k-init : goal.loop-k-init
-loop-k-init c = written_none _ 30 (replicate 30 (of_bits binary32 0)) refl
-
-pub loop-k-preserved : goal.loop-k-preserved
-loop-k-preserved c = let at = c.before.before.before.before.loop-k in written_more _ 30 at.out at.k c.pushed_at.result at.invariant c.before.before.before.loop-k-test.true c.pushed_at.ensures
+joined : (m n : ℕ) (a z b : List Float) → length a ≡ m → length z ≡ n → put_mid m n (a ++ z) b ≡ a ++ b
+joined m n a z b e f = rw (take_at a z m e, drop_at a z m e, drop_of_length-le z {i = n} (omega arith), append-nil b)
 
 pub returns : goal.returns
-returns c =
-    let at = c.before.loop-k in
-    written_end _ 30 at.out at.k at.invariant c.loop-k-test.false ∙ push_table c.before.before.args.history c.before.before.args.residual (search rules) (search rules)
+unfolding push
+returns c = joined 10 20 c.copy_from_slice.new.self _ _ (search rules) refl ∙ rw (c.copy_from_slice.ensures.after, c.copy_from_slice-2.ensures.after)

@@ -17,8 +17,8 @@ loop-k-preserved c =
     let at = c.before.before.before.loop-k in
     let lsf = c.before.before.before.before.args.lsf in
     let q = to_z-of_z w16 c.before.quantise.result (sfits_of c.before.quantise.type_inv) ∙ c.before.quantise.ensures in
-    subst (λ (z : ℤ). Running lsf (set at.out at.k z) z (at.k + 1)) (sym (to_z-of_z w16 c.larger_of-prior.result (sfits_of c.larger_of-prior.type_inv)))
-    (running_more lsf at.out _ _ c.larger_of-prior.result at.k at.invariant c.before.before.loop-k-test.true q c.larger_of-prior.ensures)
+    subst (λ (z : ℤ). Running lsf (set at.out at.k z) z (at.k + 1)) (sym (to_z-of_z w16 c.max-prior.result (sfits_of c.max-prior.type_inv)))
+    (running_more lsf at.out _ _ c.max-prior.result at.k at.invariant c.before.before.loop-k-test.true q c.max-prior.ensures.value)
 
 pub returns : goal.returns
 returns c = let at = c.before.loop-k in running_end _ at.out _ at.k at.invariant c.loop-k-test.false

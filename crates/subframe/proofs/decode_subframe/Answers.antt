@@ -18,7 +18,6 @@ use Rattle.half.specs.declared.SubframeParams.{SubframeParams}
 use Rattle.half.specs.declared.Subframe.{Subframe}
 use Rattle.half.specs.Core as Spec
 use Rattle.subframe.proofs.decode_subframe.Goals as goal
-use Rattle.subframe.proofs.decode_subframe.Goals.{After-reflection_coefficients-reflection}
 
 module _ (words : List ℤ) (bytes : List ℕ) (exc : List ℤ) (start : ℕ) (p : SubframeParams) (sharpenFixed lastHalfLag : ℤ) (gains : List Float) where
   module _ (i : Innovation) (g : Decoded) (e s : List ℤ) (t : Subframe) where

@@ -7,6 +7,6 @@ pub returns-then-mark-lt2 : goal.returns-then-mark-lt2
 unfolding after
 returns-then-mark-lt2 c = rw (lt-ltb _ _ c.if-mark-lt2.true)
 
-pub returns : goal.returns
+pub returns-else-mark-lt2 : goal.returns-else-mark-lt2
 unfolding after
-returns c = rw (le-ltb _ _ c.if-mark-lt2.false, c.through.ensures)
+returns-else-mark-lt2 c = rw (le-ltb _ _ c.if-mark-lt2.false, c.through.ensures)

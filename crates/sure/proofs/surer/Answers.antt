@@ -24,6 +24,6 @@ pub returns-then-gain-eq0 : goal.returns-then-gain-eq0
 unfolding surer
 returns-then-gain-eq0 c = rw (lt-ltb _ _ c.if-w-ge2.false, eq-eqb _ _ (zero_bits c.args.gain c.ranges.gain c.if-gain-eq0.true))
 
-pub returns : goal.returns
+pub returns-else-gain-eq0 : goal.returns-else-gain-eq0
 unfolding surer
-returns c = rw (lt-ltb _ _ c.if-w-ge2.false, ne_eqb _ _ (λ z. c.if-gain-eq0.false (bits_zero c.args.gain z)))
+returns-else-gain-eq0 c = rw (lt-ltb _ _ c.if-w-ge2.false, ne_eqb _ _ (λ z. c.if-gain-eq0.false (bits_zero c.args.gain z)))

@@ -19,7 +19,7 @@ use Rattle.synthesis.proofs.filter.Goals.{After-hi-y, At-loop-n, Start}
 
 pub loop-n-init : goal.loop-n-init
 loop-n-init c =
-    (refl, filtered_none c.args.a.now c.args.mem.now c.args.input.now c.requires.a_len.1 c.copy.new.dst _ c.args.output.now c.copy.ensures refl c.requires.input_len_bound.1, written_none (value c.args.a.now c.args.mem.now c.args.input.now) (length c.args.input.now) c.args.sums.now c.requires.input_len_bound.2)
+    (refl, filtered_none c.args.a.now c.args.mem.now c.args.input.now c.requires.a_len.1 c.copy_from_slice.new.self _ c.args.output.now c.copy_from_slice.ensures.after refl c.requires.input_len_bound.1, written_none (value c.args.a.now c.args.mem.now c.args.input.now) (length c.args.input.now) c.args.sums.now c.requires.input_len_bound.2)
 
 -- a turn: the sum, and the output
 module _ (c : goal.After-hi-y) where
@@ -64,6 +64,6 @@ returns c =
     let done = filtered_end c.args.a.now c.args.mem.now c.args.input.now c.requires.a_len.1 c.loop-n.window c.loop-n.output c.loop-n.n c.requires.input_len_bound.0 c.loop-n.invariant.1 (omega arith) in
     record {
       outputs = done.0;
-      last = c.copy-2.ensures ∙ done.1;
+      last = c.copy_from_slice-2.ensures.after ∙ done.1;
       sums = written_end (value c.args.a.now c.args.mem.now c.args.input.now) (length c.args.input.now) c.loop-n.sums c.loop-n.n c.loop-n.invariant.2 (omega arith);
     }

@@ -1,26 +1,19 @@
--- By count i the rows of those before it are put.
-use native.Mathlib.Omega.{arith}
-use Rattle.term_text.proofs.Rows.{rowed_none, rowed_fits, rowed_more, rowed_end}
+-- A row more.
+use Rattle.std.proofs.Common.{arith}
+use Rattle.writer.specs.Wrote.{wrote_none, wrote_more}
+use Rattle.term_text.specs.Report.{rows}
+use Rattle.term_text.proofs.Rows.{rows_more}
 use Rattle.term_text.proofs.put_rows.Goals as goal
 
 pub loop-i-init : goal.loop-i-init
-loop-i-init c = rowed_none _ _ _ _ _
-
-pub put_row-at-requires : goal.put_row-at-requires
-put_row-at-requires c =
-    let f = rowed_fits c.loop-i.invariant c.requires.fact_1 in
-    omega arith
+unfolding rows
+loop-i-init c = record { wrote = wrote_none c.args.out.now; fits = omega arith }
 
 pub loop-i-preserved : goal.loop-i-preserved
-loop-i-preserved c = rowed_more c.loop-i.invariant c.loop-i-test.true (c.put_row-at.ensures.next, c.put_row-at.ensures.text)
-
-pub shape_of-room : goal.shape_of-room
-shape_of-room c = (rowed_fits c.loop-i.invariant c.requires.fact_1).1
-
-pub returns : goal.returns
-returns c =
-    let e = rowed_end c.loop-i.invariant c.loop-i-test.false in
+loop-i-preserved c =
+    let a = c.args in
+    let n = c.requires.name in
     record {
-      next = e.next_is;
-      text = e.text_is;
+      wrote = rw (rows_more a.name.now a.from a.counts.now c.loop-i.i c.loop-i-test.true) (wrote_more c.loop-i.invariant.wrote c.put_row.ensures.wrote);
+      fits = omega (arith, c.loop-i.invariant.fits, c.put_row.ensures.fits);
     }

@@ -1,29 +1,25 @@
--- By place i no newline was met.
-use native.Mathlib.Omega.{arith}
-use Rattle.verdict.proofs.Ends.{first_more, first_stop, first_none}
+-- The first newline ends the first piece.
+use Rattle.std.proofs.Common.{◌≡◌, ◌≢◌, ◌∙◌, ◌+◌, ℕ, refl, sym, add-one, List, ◌∷◌, length}
+use Rattle.std.proofs.lemmas.Iterator.{YieldsList-from_slice, IsFirst-from_position, index_from_first}
+use Rattle.stream.specs.Lines.{pieces}
 use borrow.Author.Rules.{rules}
+use borrow.Author.Tests.{tests, eq-eqb, ne_eqb}
 use Rattle.verdict.proofs.line_end.Goals as goal
 
-pub returns-then-text-i-eq10 : goal.returns-then-text-i-eq10
-returns-then-text-i-eq10 c =
-    let m = first_stop c.args.text.now c.loop-i.i c.loop-i-test.true c.if-text-i-eq10.true in
-    let i = c.loop-i.invariant.1 in
-    record {
-      value = omega arith;
-      upper_bound = search rules;
-    }
+before : List ℕ → ℕ
+before text = length (pieces text).first
 
-pub loop-i-preserved : goal.loop-i-preserved
-loop-i-preserved c =
-    let m = first_more c.args.text.now c.loop-i.i c.loop-i-test.true c.if-text-i-eq10.false in
-    let i = c.loop-i.invariant.1 in
-    (search rules, omega arith)
+hit : (b : ℕ) (bs : List ℕ) → b ≡ 10 → before (b ∷ bs) ≡ 0
+unfolding before pieces
+hit b bs e = rw (eq-eqb b 10 e)
 
-pub returns : goal.returns
-returns c =
-    let m = first_none c.args.text.now c.loop-i.i c.loop-i-test.false in
-    let i = c.loop-i.invariant.1 in
-    record {
-      value = omega arith;
-      upper_bound = search rules;
-    }
+miss : (b : ℕ) (bs : List ℕ) → b ≢ 10 → before (b ∷ bs) ≡ before bs + 1
+unfolding before pieces
+miss b bs e = rw (ne_eqb b 10 e, add-one)
+
+pub returns-clause-value : goal.returns-clause-value
+unfolding before pieces
+returns-clause-value c =
+    let text = c.args.text.now in
+    let first = IsFirst-from_position _ _ c.position.result (λ b. b ≡ 10) (λ b. b ≢ 10) c.position.ensures.ran (YieldsList-from_slice text c.iter.ensures.rest) (λ x q k. search (rules, tests)) (λ x q k. search (rules, tests)) in
+    c.unwrap_or.ensures ∙ sym (index_from_first before (λ b. b ≡ 10) (λ b. b ≢ 10) refl hit miss text c.position.result first)

@@ -1,13 +1,15 @@
--- By whether we have a line.
-use mathlib.Core.Path.{refl}
-use borrow.Author.Tests.{eq-eqb, ne_eqb}
-use Rattle.verdict.specs.Round.{last}
+-- All that was put, from the start of the room.
+use Rattle.std.proofs.Common.{refl, arith}
+use borrow.Author.Rules.{rules}
+use Rattle.writer.specs.Wrote.{wrote_over}
 use Rattle.verdict_text.proofs.put_last.Goals as goal
 
-pub returns-then-said-eq0 : goal.returns-then-said-eq0
-unfolding last
-returns-then-said-eq0 c = rw (eq-eqb _ 0 c.if-said-eq0.true) (record { length = refl; text = c.put.ensures })
+pub returns-clause-length : goal.returns-clause-length
+returns-clause-length c = omega (arith, c.put_end.ensures.wrote.next)
 
-pub returns : goal.returns
-unfolding last
-returns c = rw (ne_eqb _ 0 c.if-said-eq0.false) c.put_says.ensures
+pub returns-clause-text : goal.returns-clause-text
+returns-clause-text c =
+    let w = c.put_end.ensures.wrote in
+    let f = c.put_end.ensures.fits in
+    let e = (wrote_over w refl (omega (arith, w.next, c.requires))).1 in
+    search (rules, e)

@@ -1,26 +1,15 @@
--- The definition's tests in turn.
-use native.Mathlib.Omega.{arith}
-use mathlib.Core.Path.{refl, sym, ◌∙◌}
-use lib.Seq.{length-take-le}
-use borrow.Author.Tests.{eq-eqb, ne_eqb}
-use Rattle.stream.specs.Room.{over_none}
-use Rattle.verdict.specs.Round.{round}
+-- All that was put, from the start of the room.
+use Rattle.std.proofs.Common.{refl, arith}
+use borrow.Author.Rules.{rules}
+use Rattle.writer.specs.Wrote.{wrote_over}
 use Rattle.verdict_text.proofs.put_round.Goals as goal
 
-pub returns-then-text-eq0 : goal.returns-then-text-eq0
-unfolding round
-returns-then-text-eq0 c = rw (eq-eqb _ 0 c.if-text-eq0.true) c.put_added.ensures
+pub returns-clause-length : goal.returns-clause-length
+returns-clause-length c = omega (arith, c.put_judged.ensures.wrote.next)
 
-pub slice_bounds-agrees-end : goal.slice_bounds-agrees-end
-slice_bounds-agrees-end c = sym (length-take-le _ _ (omega arith))
-
-pub returns-then-agrees : goal.returns-then-agrees
-unfolding round
-returns-then-agrees c = rw (ne_eqb _ 0 c.if-text-eq0.false, sym c.agrees.ensures ∙ c.if-agrees.true) (record { length = refl; text = over_none _ })
-
-pub slice_bounds-put_difference-end : goal.slice_bounds-put_difference-end
-slice_bounds-put_difference-end c = sym (length-take-le _ _ (omega arith))
-
-pub returns : goal.returns
-unfolding round
-returns c = rw (ne_eqb _ 0 c.if-text-eq0.false, sym c.agrees.ensures ∙ c.if-agrees.false) c.put_difference.ensures
+pub returns-clause-text : goal.returns-clause-text
+returns-clause-text c =
+    let w = c.put_judged.ensures.wrote in
+    let f = c.put_judged.ensures.fits in
+    let e = (wrote_over w refl (omega (arith, w.next, c.requires))).1 in
+    search (rules, e)

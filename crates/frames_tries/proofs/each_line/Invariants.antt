@@ -1,9 +1,0 @@
--- A line's end is behind its beginning.
-use Rattle.std.proofs.Common.{◌-◌, ◌≤◌, length}
-use Rattle.frames_tries.proofs.each_line.Given as goal
-
-abbrev pub invariant-loop-at : goal.invariant-loop-at
-invariant-loop-at l = l.at ≤ length l.text
-
-abbrev pub decreases-loop-at : goal.decreases-loop-at
-decreases-loop-at l = length l.text - l.at

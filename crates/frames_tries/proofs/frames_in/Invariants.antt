@@ -1,9 +1,0 @@
--- The frames are counted up to n.
-use Rattle.std.proofs.Common.{◌-◌, ◌≤◌}
-use Rattle.frames_tries.proofs.frames_in.Given as goal
-
-abbrev pub invariant-loop-k : goal.invariant-loop-k
-invariant-loop-k l = l.k ≤ l.n
-
-abbrev pub decreases-loop-k : goal.decreases-loop-k
-decreases-loop-k l = l.n - l.k

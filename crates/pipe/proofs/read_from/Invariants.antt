@@ -1,7 +1,0 @@
-use Rattle.pipe.proofs.read_from.Given as goal
-
-abbrev pub invariant-loop-tries : goal.invariant-loop-tries
-invariant-loop-tries g l = Unit {0}
-
-abbrev pub decreases-loop-tries : goal.decreases-loop-tries
-decreases-loop-tries g l = l.tries
