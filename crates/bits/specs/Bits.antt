@@ -170,8 +170,8 @@ unpack p = cond (eqb (length p) 20) (cond (eqb (bit_and (get_or p 19 0) 192) 0) 
 abbrev pub number : Result FrameParams Refusal → ℕ
 number u = told u
 
--- and its fields, all zero on a refusal
-abbrev pub fields : Result FrameParams Refusal → FrameParams
+-- and its fields, all zero on a refusal of any kind
+abbrev pub fields : {E : Type 0} → Result FrameParams E → FrameParams
 fields (Ok f) = f
 fields (Err why) = frame_params (replicate 24 0)
 

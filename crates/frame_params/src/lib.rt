@@ -112,8 +112,8 @@ pub fn unpack(payload: &[u8]) -> Result<FrameParams, Refusal>
     Ok(FrameParams { first, second })
 }
 
-// The fields that were read, or where the payload is refused 24 zeros.
-pub fn fields(u: Result<FrameParams, Refusal>) -> FrameParams
+// The fields that were read, or where the payload is refused, for whatever reason, 24 zeros.
+pub fn fields<E: Drop>(u: Result<FrameParams, E>) -> FrameParams
     ensures { result ≡ Bits.fields u }
 {
     u.unwrap_or_default()

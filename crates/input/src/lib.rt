@@ -49,11 +49,13 @@ impl Input {
         &self.chunk[self.at..self.to]
     }
 
-    // So many bytes more of what is unread are used.
+    // So many bytes more of what is unread are used. All else stays, the bytes that were read among it.
     pub fn use_up(&mut self, n: usize)
         requires { self.old.at + n ≤ self.old.to }
         ensures at { self.new.at ≡ self.old.at + n }
         ensures to { self.new.to ≡ self.old.to }
+        ensures chunk { self.new.chunk ≡ self.old.chunk }
+        ensures over { self.new.over ≡ self.old.over }
     {
         self.at += n;
     }

@@ -36,29 +36,19 @@ pub struct Ended {
     pub listed: usize,
 }
 
-// A byte more of the line.
+// A byte more of the line. In place: a record that is made anew for each byte takes a third more time.
 #[tactic(auto, unfolding(crate::specs::Look::looked, crate::specs::Repair::is_return, crate::specs::Repair::is_blank, crate::specs::Repair::is_capital))]
-fn look_at(found: Found, b: u8) -> Found
-    ensures { result ≡ Look.looked found b }
+fn look_at(found: &mut Found, b: u8)
+    ensures { found.new ≡ Look.looked found.old b }
 {
     match b {
-        b'\r' => Found {
-            returns: true,
-            ..found
-        },
-        b' ' => Found {
-            blanks: true,
-            ..found
-        },
-        b'A'..=b'Z' => Found {
-            line: hex_lines::push(found.line, b.to_ascii_lowercase()),
-            letters: true,
-            ..found
-        },
-        _ => Found {
-            line: hex_lines::push(found.line, b),
-            ..found
-        },
+        b'\r' => found.returns = true,
+        b' ' => found.blanks = true,
+        b'A'..=b'Z' => {
+            found.letters = true;
+            found.line = hex_lines::push(found.line, b.to_ascii_lowercase());
+        }
+        _ => found.line = hex_lines::push(found.line, b),
     }
 }
 
@@ -72,7 +62,7 @@ fn look(line: &[u8]) -> Found
         letters: false,
     };
     for b in line {
-        found = look_at(found, *b);
+        look_at(&mut found, *b);
     }
     found
 }

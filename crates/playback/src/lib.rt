@@ -110,6 +110,13 @@ fn found(
     Err(Refusal::NoFrame)
 }
 
+// The same with its refusal's number.
+fn numbered(s: Result<State, Refusal>) -> Result<State, u8>
+    ensures { Seek.numbered result ≡ Seek.answer s }
+{
+    s.map_err(Refusal::number)
+}
+
 // `save K`
 fn save(
     words: &[i16],
@@ -125,7 +132,7 @@ fn save(
     ensures images_after { images.new ≡ (Replies.save_left (Promised.shelf slots images.old) k (Playback.found words.now bytes.now recording.now (Promised.shelf slots images.old) k)).images }
 {
     let s = found(words, bytes, slots, images, recording, k);
-    sought::keep(s, slots, images, k, room)
+    sought::keep(numbered(s), slots, images, k, room)
 }
 
 // A command: its text goes over the beginning of room, but for the frames that it leaves to play.
@@ -147,11 +154,11 @@ fn obey(
         Command::LetGo(k) => replies::let_go(slots, images, k, room),
         Command::Seek(k) => {
             let s = seek::seek(words, bytes, &slots, images, recording, k);
-            replies::tell(s, slots, k, room)
+            replies::tell(numbered(s), slots, k, room)
         }
         Command::Play(k, n) => {
             let s = seek::seek(words, bytes, &slots, images, recording, k);
-            sought::begin_play(s, slots, recording, k, n, room)
+            sought::begin_play(numbered(s), slots, recording, k, n, room)
         }
         Command::Unknown => replies::wonder(slots, room),
     }

@@ -14,7 +14,7 @@ use turns::Told;
 
 const PROGRAM: &[u8] = b"player";
 
-// A turn, and its text: what it leaves, and how long the text was.
+// A turn, and its text: what it leaves, and how long the text was. What was read stays as it was read.
 fn take_turn(
     rt: &HostRuntime,
     words: &[i16],
@@ -27,6 +27,7 @@ fn take_turn(
     requires { Start.Tables words.now file.now }
     ensures sent { IfOk result (λ r. Turns.Sent recording.now (Turns.turn_of file.now recording.now input.old.chunk player images.old input.old.at input.old.to) input.old.at r.0 images.new input.new.at r.1 false) }
     ensures failed { IfErr result (λ e. (next : APlayer) × Turns.Sent recording.now (Turns.turn_of file.now recording.now input.old.chunk player images.old input.old.at input.old.to) input.old.at next images.new input.new.at 0 true) }
+    ensures unread { (input.new.chunk ≡ input.old.chunk) × (input.new.to ≡ input.old.to) }
 {
     let mut room = [0u8; 1283];
     let t = playback::turn(
@@ -43,18 +44,20 @@ fn take_turn(
     Ok((t.player, sent))
 }
 
-// Each turn plays a frame, uses a byte or more, or is at the end. Input is asked for where none is left and no frame is played.
-fn play(rt: &HostRuntime, words: &[i16], file: &[u8], recording: &[u8]) -> Result<Player, Told>
+// Each turn plays a frame, uses a byte or more, or is at the end. Input is asked for where none is left and no frame is played. The player is kept beside the
+// turns: one that goes from turn to turn is copied several times in each.
+fn play(rt: &HostRuntime, words: &[i16], file: &[u8], recording: &[u8]) -> Result<(), Told>
     requires { Start.Tables words.now file.now }
 {
     let mut images = [0u8; 8416];
     let mut input = Input::new();
+    let mut player = playback::start();
     turns::take_turns(
         rt,
         PROGRAM,
         b"turns",
-        playback::start(),
-        |player|
+        (),
+        |()|
             requires { Start.Tables words.now file.now }
         {
             if !playback::playing(recording, player.cue) {
@@ -64,7 +67,8 @@ fn play(rt: &HostRuntime, words: &[i16], file: &[u8], recording: &[u8]) -> Resul
                     .map_err(|why| turns::tell(rt, PROGRAM, b": cannot read", why))?;
             }
             let (next, _) = take_turn(rt, words, file, player, &mut input, &mut images, recording)?;
-            Ok(turns::after(!next.told, next))
+            player = next;
+            Ok(turns::after(!player.told, ()))
         },
     )
 }

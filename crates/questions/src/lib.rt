@@ -37,35 +37,26 @@ fn signed(digits: u64, negative: bool) -> i64
 
 // The number that was being read is complete; behind the 128th there is no place.
 #[tactic(auto, unfolding(crate::specs::Questions::ended))]
-fn ended(r: Reading) -> Reading
-    ensures { result ≡ Questions.ended r }
+fn ended(r: &mut Reading)
+    ensures { r.new ≡ Questions.ended r.old }
 {
-    let mut s = Reading {
-        digits: 0,
-        negative: false,
-        ..r
-    };
     if r.count < 128 {
-        s.numbers[r.count] = signed(r.digits, r.negative);
-        s.count += 1;
+        r.numbers[r.count] = signed(r.digits, r.negative);
+        r.count += 1;
     }
-    s
+    r.digits = 0;
+    r.negative = false;
 }
 
-// A byte more: one from the digit 0 on goes on with the number, a minus is kept, anything else ends it.
+// A byte more: one from the digit 0 on goes on with the number, a minus is kept, anything else ends it. In place, since a copy of 128 numbers for each byte
+// takes most of the time.
 #[tactic(auto, unfolding(crate::specs::Questions::step))]
-fn step(r: Reading, b: u8) -> Reading
-    ensures { result ≡ Questions.step r b }
+fn step(r: &mut Reading, b: u8)
+    ensures { r.new ≡ Questions.step r.old b }
 {
     match b {
-        b'0'.. => Reading {
-            digits: r.digits % 1000000000000000000 * 10 + u64::from(b) % 16,
-            ..r
-        },
-        b'-' => Reading {
-            negative: true,
-            ..r
-        },
+        b'0'.. => r.digits = r.digits % 1000000000000000000 * 10 + u64::from(b) % 16,
+        b'-' => r.negative = true,
         _ => ended(r),
     }
 }
@@ -95,7 +86,7 @@ pub fn line(s: &[u8], from: usize) -> Question
     };
     let rest = &s[from..];
     for (i, b) in rest.iter().enumerate() {
-        r = step(r, *b);
+        step(&mut r, *b);
         if *b == b'\n' {
             return asked(r, from + i + 1);
         }

@@ -109,17 +109,23 @@ pub fn let_go(mut slots: [Slot; 16], images: &[u8], k: u32, room: &mut [u8]) -> 
     }
 }
 
-// `seek K`, of what was found
-pub fn tell(s: Result<State, Refusal>, slots: [Slot; 16], k: u32, room: &mut [u8]) -> Obeyed
+// `seek K`, of what was found, or the number that it is refused with: any, and of 0, which refuses nothing, the all-zero state's mark.
+pub fn tell(s: Result<State, u8>, slots: [Slot; 16], k: u32, room: &mut [u8]) -> Obeyed
     requires { 64 ≤ length room.old }
-    ensures { Promised.Quiet slots (Replies.answered (Seek.answer s).number (Replies.frame_mark k (Seek.answer s).state.mark)) room.old result room.new }
+    ensures { Promised.Quiet slots (Replies.answered (Seek.numbered s).number (Replies.frame_mark k (Seek.numbered s).state.mark)) room.old result room.new }
 {
     Obeyed {
         slots,
         cue: silence(),
         n: match s {
             Ok(state) => put_frame_mark(k, state.mark, room),
-            Err(why) => put_refused(why, room),
+            Err(number) => {
+                if number == 0 {
+                    put_frame_mark(k, 0, room)
+                } else {
+                    put_answer(number, b"frame ", 0, room)
+                }
+            }
         },
     }
 }

@@ -157,7 +157,7 @@ fn some<F: Fn(usize) -> bool>(n: usize, offends: F) -> bool
 {
     let mut any = false;
     for k in 0..n {
-        any = offends(k) || any;
+        any |= offends(k);
     }
     any
 }

@@ -26,6 +26,11 @@ abbrev pub answer : Result State Refusal → Sought
 answer (Ok s) = record { number = 0; state = s }
 answer (Err r) = not_sought (Numbers.number r)
 
+-- the same where the refusal is any number; 0 refuses nothing
+abbrev pub numbered : Result State ℕ → Sought
+numbered (Ok s) = record { number = 0; state = s }
+numbered (Err n) = not_sought n
+
 -- the set's refusal, 1 or 4, or what an accepted one gives
 unfoldable pub of_set : ℕ → Sought → Sought
 of_set zero a = a

@@ -49,7 +49,7 @@ fn state_part(rt: &HostRuntime, s: State, digest: bool) {
     floats(&mut out, "gains", &s.gains);
     numbers(&mut out, "mark", &[s.mark]);
     numbers(&mut out, "sure", &[s.sure]);
-    part(rt, out, digest);
+    part(rt, &out, digest);
     if digest {
         let _ = pipe::write(rt, b"\n");
     }
@@ -82,13 +82,13 @@ fn subframe_part(rt: &HostRuntime, s: Subframe, clipped: Clipped, sure: u8, dige
         ],
     );
     numbers(&mut out, "sure", &[sure]);
-    part(rt, out, digest);
+    part(rt, &out, digest);
 }
 
 fn words_part(rt: &HostRuntime, name: &str, w: &[i16], digest: bool) {
     let mut out = Cursor::new(io::buffer());
     numbers(&mut out, name, w);
-    part(rt, out, digest);
+    part(rt, &out, digest);
 }
 
 fn answer_parts(rt: &HostRuntime, a: Answer, samples: &[i16], digest: bool) {
@@ -324,13 +324,12 @@ fn fnv(s: &[u8]) -> u64 {
 }
 
 // A part is over: it is written, or in its place 32 bits of it.
-fn part(rt: &HostRuntime, out: Room, digest: bool) {
+fn part(rt: &HostRuntime, out: &Room, digest: bool) {
     let n = out.position();
-    let room = out.into_inner();
     if 4096 < n {
         return;
     }
-    let text = &room[..n as usize];
+    let text = &out.get_ref()[..n as usize];
     if digest {
         let mut digits = [0u8; 16];
         let k = io::hex(fnv(text), 8, &mut digits);

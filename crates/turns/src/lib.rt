@@ -12,10 +12,19 @@ use std::ops::ControlFlow;
 #[derive(Clone, Copy)]
 pub struct Told;
 
-// A line to standard error: the program's name, what failed, and why.
+// A line to standard error: the program's name, what failed, and why. Name and what failed are one write where both are short, so that nothing comes between.
 pub fn tell(rt: &HostRuntime, program: &[u8], what: &[u8], why: Error) -> Told {
-    let _ = pipe::write_error(rt, program);
-    pipe::tell(rt, what, why);
+    if program.len() <= 32 && what.len() <= 32 {
+        let mut room = [0u8; 64];
+        let n = program.len();
+        let m = n + what.len();
+        room[..n].copy_from_slice(program);
+        room[n..m].copy_from_slice(what);
+        pipe::tell(rt, &room[..m], why);
+    } else {
+        let _ = pipe::write_error(rt, program);
+        pipe::tell(rt, what, why);
+    }
     Told
 }
 

@@ -13,7 +13,7 @@ pub loop-b-preserved : goal.loop-b-preserved
 loop-b-preserved c =
     let l = c.args.line.now in
     let i = c.loop-b.b-index in
-    c.look_at-found.ensures ∙ rw (c.loop-b.invariant, add-one, take-suc l i 0 c.loop-b-test.true) (looked_more (take i l) (get_or l i 0))
+    c.look_at.ensures ∙ rw (c.loop-b.invariant, add-one, take-suc l i 0 c.loop-b-test.true) (looked_more (take i l) (get_or l i 0))
 
 pub returns : goal.returns
 returns c = c.loop-b.invariant ∙ ap Look.found (take_all c.loop-b.b-index c.args.line.now c.loop-b-test.false)

@@ -1,5 +1,5 @@
 -- By kinds.
-use Rattle.std.proofs.Common.{refl}
+use Rattle.std.proofs.Common.{refl, ◌∙◌}
 use borrow.Author.Tests.{eqb-false}
 use Rattle.commands.specs.declared.Command.TheVariants.{Save, Hold, LetGo, Seek, Play, Unknown}
 use Rattle.commands.specs.Commands.{told}
@@ -20,11 +20,11 @@ returns-in-LetGo c =
 
 pub returns-in-Seek : goal.returns-in-Seek
 returns-in-Seek c =
-    rw c.in-Seek.is (obeys_seek _ _ _ _ (told (Seek c.in-Seek.k)) _ _ _ _ refl (eqb-false 4 1 refl) (eqb-false 4 2 refl) (eqb-false 4 3 refl) refl _ c.seek-s.ensures c.tell.ensures)
+    rw c.in-Seek.is (obeys_seek _ _ _ _ (told (Seek c.in-Seek.k)) _ _ _ _ refl (eqb-false 4 1 refl) (eqb-false 4 2 refl) (eqb-false 4 3 refl) refl _ (c.numbered.ensures ∙ c.seek-s.ensures) c.tell.ensures)
 
 pub returns-in-Play : goal.returns-in-Play
 returns-in-Play c =
-    rw c.in-Play.is (obeys_play _ _ _ _ (told (Play c.in-Play.k c.in-Play.n)) _ _ _ _ refl (eqb-false 5 1 refl) (eqb-false 5 2 refl) (eqb-false 5 3 refl) refl _ c.seek-s-in-Play.ensures c.begin_play.ensures)
+    rw c.in-Play.is (obeys_play _ _ _ _ (told (Play c.in-Play.k c.in-Play.n)) _ _ _ _ refl (eqb-false 5 1 refl) (eqb-false 5 2 refl) (eqb-false 5 3 refl) refl _ (c.numbered-in-Play.ensures ∙ c.seek-s-in-Play.ensures) c.begin_play.ensures)
 
 pub returns-in-Unknown : goal.returns-in-Unknown
 returns-in-Unknown c =

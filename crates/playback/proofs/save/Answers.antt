@@ -3,4 +3,4 @@ use Rattle.playback.proofs.save.Goals as goal
 
 pub returns : goal.returns
 returns c =
-    rw (← c.found-s.ensures) c.keep.ensures
+    rw (← c.found-s.ensures, ← c.numbered.ensures) c.keep.ensures

@@ -22,13 +22,13 @@ pub returns-then-b-eq10-clause-value : goal.returns-then-b-eq10-clause-value
 returns-then-b-eq10-clause-value c =
     let a = c.args in
     let t = c.loop-i in
-    rw (c.asked.ensures, c.step-r.ensures, t.invariant, line_ended_lem t.r (rest a.s.now a.from) a.from t.i c.loop-i-test.true (eq-eqb _ 10 c.if-b-eq10.true))
+    rw (c.asked.ensures, c.step.ensures, t.invariant, line_ended_lem t.r (rest a.s.now a.from) a.from t.i c.loop-i-test.true (eq-eqb _ 10 c.if-b-eq10.true))
 
 pub loop-i-preserved : goal.loop-i-preserved
 loop-i-preserved c =
     let a = c.args in
     let t = c.loop-i in
-    rw (c.step-r.ensures, t.invariant, line_more t.r (rest a.s.now a.from) a.from t.i c.loop-i-test.true (ne_eqb _ 10 c.if-b-eq10.false))
+    rw (c.step.ensures, t.invariant, line_more t.r (rest a.s.now a.from) a.from t.i c.loop-i-test.true (ne_eqb _ 10 c.if-b-eq10.false))
 
 pub returns-clause-value : goal.returns-clause-value
 returns-clause-value c =
