@@ -36,7 +36,7 @@ pub struct Ended {
     pub listed: usize,
 }
 
-// A byte more of the line. In place: a record that is made anew for each byte takes a third more time.
+// A byte more of the line. In place: a record that is made anew for each byte takes longer.
 #[tactic(auto, unfolding(crate::specs::Look::looked, crate::specs::Repair::is_return, crate::specs::Repair::is_blank, crate::specs::Repair::is_capital))]
 fn look_at(found: &mut Found, b: u8)
     ensures { found.new ≡ Look.looked found.old b }

@@ -49,7 +49,7 @@ fn ended(r: &mut Reading)
 }
 
 // A byte more: one from the digit 0 on goes on with the number, a minus is kept, anything else ends it. In place, since a copy of 128 numbers for each byte
-// takes most of the time.
+// takes longer.
 #[tactic(auto, unfolding(crate::specs::Questions::step))]
 fn step(r: &mut Reading, b: u8)
     ensures { r.new ≡ Questions.step r.old b }
